@@ -1,0 +1,56 @@
+// The paper's vocabulary: the kinds of refusal, a refusal with its place, the three countings.
+ghost use mathlib.Core.Path.{_≡_};
+ghost use Rattle.faults.specs.Values.{refusalOf};
+
+// One case a number of the paper's table: 1 to 11, then 20 and 21 of the timetable's reader.
+pub enum Kind {
+    Room,
+    Long,
+    Grammar,
+    Carried,
+    Bounds,
+    Terms,
+    Candidate,
+    Broken,
+    Unfounded,
+    Cycle,
+    Late,
+    NotTable,
+    NotNamed,
+}
+
+// Why something is refused, and where.
+pub struct Refusal {
+    pub kind: Kind,
+    pub place: usize,
+}
+
+// The number of an atom.
+pub struct AtomNo(pub u32);
+
+// The number of a term.
+pub struct TermNo(pub u32);
+
+// The number of an element.
+pub struct ElementNo(pub u32);
+
+// What a layer answers: a number, or a refusal.
+pub enum Step {
+    Good(usize),
+    Refused(Refusal),
+}
+
+impl Step {
+    // The refusal of an answer that is one.
+    pub fn refusal(self) -> Refusal
+        ensures { λ r. ⌜ r ≡ refusalOf self ⌝ }
+    {
+        match self {
+            Step::Good(n) => Refusal {
+                kind: Kind::Grammar,
+                place: n,
+            },
+            Step::Refused(r) => r,
+        }
+    }
+}

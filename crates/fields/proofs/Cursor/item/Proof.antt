@@ -1,0 +1,75 @@
+-- `fields::Cursor::item` meets its contract. Assumes nothing.
+use borrow.Author.Needs.{needs}
+use Rattle.fields.specs.Fields.{item}
+use Rattle.fields.proofs.Cursor.item.Statement.{statement}
+use Rattle.fields.proofs.Cursor.item.Tie as tie
+
+enum-told : tie.Need-enum-told
+enum-told c = search needs
+
+atom-word-requires : tie.Need-atom-word-requires
+atom-word-requires c κs = search needs
+
+enum-told-2 : tie.Need-enum-told-2
+enum-told-2 c = search needs
+
+next-literal-requires : tie.Need-next-literal-requires
+next-literal-requires c κs = search needs
+
+enum-told-3 : tie.Need-enum-told-3
+enum-told-3 c = search needs
+
+term-word-requires : tie.Need-term-word-requires
+term-word-requires c κs = search needs
+
+enum-told-4 : tie.Need-enum-told-4
+enum-told-4 c = search needs
+
+element-word-requires : tie.Need-element-word-requires
+element-word-requires c κs = search needs
+
+enum-told-5 : tie.Need-enum-told-5
+enum-told-5 c = search needs
+
+char-at-requires : tie.Need-char-at-requires
+char-at-requires c κs = search needs
+
+returns : tie.Need-returns
+unfolding item
+returns c = rw (c .before .enum-told .given .1) (c .atom-word .ensures)
+
+returns-2 : tie.Need-returns-2
+unfolding item
+returns-2 c = rw (c .before .enum-told2 .given .1) (c .next-literal .ensures)
+
+returns-3 : tie.Need-returns-3
+unfolding item
+returns-3 c = rw (c .before .enum-told3 .given .1) (c .term-word .ensures)
+
+returns-4 : tie.Need-returns-4
+unfolding item
+returns-4 c = rw (c .before .enum-told4 .given .1) (c .element-word .ensures)
+
+returns-5 : tie.Need-returns-5
+unfolding item
+returns-5 c = rw (c .before .enum-told5 .given .1) (c .char-at .ensures)
+
+pub item-spec : {M : Type 1} → statement M
+item-spec =
+    tie.close
+    (tie.spec
+    enum-told
+    atom-word-requires
+    enum-told-2
+    next-literal-requires
+    enum-told-3
+    term-word-requires
+    enum-told-4
+    element-word-requires
+    enum-told-5
+    char-at-requires
+    returns
+    returns-2
+    returns-3
+    returns-4
+    returns-5)

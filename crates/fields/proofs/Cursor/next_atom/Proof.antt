@@ -1,0 +1,40 @@
+-- `fields::Cursor::next_atom` meets its contract. Assumes nothing.
+use borrow.Author.Needs.{needs}
+use Rattle.fields.specs.Fields.{nextAtom}
+use Rattle.fields.proofs.Cursor.next_atom.Statement.{statement}
+use Rattle.fields.proofs.Cursor.next_atom.Tie as tie
+
+byte-requires : tie.Need-byte-requires
+byte-requires c κs = search needs
+
+enum-known-a : tie.Need-enum-known-a
+enum-known-a c = search needs
+
+enum-told : tie.Need-enum-told
+enum-told c = search needs
+
+refusal-requires : tie.Need-refusal-requires
+refusal-requires c κs = search needs
+
+returns : tie.Need-returns
+unfolding nextAtom
+returns c = rw (c .refusal .ensures, ← (c .before .before .before .byte .ensures), c .before .enum-told .given .1)
+
+atom-requires : tie.Need-atom-requires
+atom-requires c κs = search needs
+
+returns-2 : tie.Need-returns-2
+unfolding nextAtom
+returns-2 c = rw (← (c .before .before .before .before .byte .ensures), c .before .before .a .given .1) (c .atom .ensures)
+
+pub next-atom-spec : {M : Type 1} → statement M
+next-atom-spec =
+    tie.close
+    (tie.spec
+    byte-requires
+    enum-known-a
+    enum-told
+    refusal-requires
+    returns
+    atom-requires
+    returns-2)

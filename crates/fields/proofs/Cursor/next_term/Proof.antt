@@ -1,0 +1,30 @@
+-- `fields::Cursor::next_term` meets its contract. Assumes nothing.
+use borrow.Author.Needs.{needs}
+use Rattle.fields.specs.Fields.{nextTerm}
+use Rattle.fields.proofs.Cursor.next_term.Statement.{statement}
+use Rattle.fields.proofs.Cursor.next_term.Tie as tie
+
+next-natural-requires : tie.Need-next-natural-requires
+next-natural-requires c κs = search needs
+
+enum-known-a : tie.Need-enum-known-a
+enum-known-a c = search needs
+
+enum-told : tie.Need-enum-told
+enum-told c = search needs
+
+refusal-requires : tie.Need-refusal-requires
+refusal-requires c κs = search needs
+
+returns : tie.Need-returns
+unfolding nextTerm
+returns c = rw (c .refusal .ensures, ← (c .before .before .before .next-natural .ensures), c .before .enum-told .given .1)
+
+returns-2 : tie.Need-returns-2
+unfolding nextTerm
+returns-2 c = rw (← (c .before .before .before .next-natural .ensures), c .before .a .given .1)
+
+pub next-term-spec : {M : Type 1} → statement M
+next-term-spec =
+    tie.close
+    (tie.spec next-natural-requires enum-known-a enum-told refusal-requires returns returns-2)

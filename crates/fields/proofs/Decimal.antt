@@ -1,0 +1,62 @@
+-- Laws of digits and of their value, one step at a place of a field. Assumes nothing.
+use Prim.Native.Nat.{ℕ, suc, _+_, _-_, _*_, _≤_, _<_}
+use mathlib.Core.Path.{_≡_, refl, sym}
+use mathlib.Core.List.{List, [], _∷_}
+use mathlib.Core.Bool.{true, false}
+use borrow.Author.Tests.{eq-eqb, ne-eqb}
+use lib.Dec.{eqb}
+use native.Mathlib.Omega.{arith}
+use native.Mathlib.Numerals.{add-one}
+use lib.ListN.{length, getD, drop, drop-of-length-le}
+use lib.Seq.{drop-cons}
+use Rattle.fields.specs.Fields.{allDigits, isDigit, value, isNatural}
+
+module _ (s : List ℕ) (i : ℕ) where
+  pub digits-out : length s ≤ i → allDigits (drop i s) ≡ true
+  unfolding allDigits
+  digits-out h = rw (drop-of-length-le s h)
+
+  pub digits-more : i < length s → isDigit (getD s i 0) ≡ true → allDigits (drop i s) ≡ allDigits (drop (i + 1) s)
+  unfolding allDigits
+  digits-more h t = rw (drop-cons s i 0 h, t, add-one)
+
+  pub digits-stop : i < length s → isDigit (getD s i 0) ≡ false → allDigits (drop i s) ≡ false
+  unfolding allDigits
+  digits-stop h t = rw (drop-cons s i 0 h, t)
+
+  pub value-out : (v : ℕ) → length s ≤ i → value v (drop i s) ≡ v
+  unfolding value
+  value-out v h = rw (drop-of-length-le s h)
+
+  pub value-more : (v d : ℕ) → i < length s → d ≡ getD s i 0 - 48 → value v (drop i s) ≡ value (v * 10 + d) (drop (i + 1) s)
+  unfolding value
+  value-more v d h e = rw (drop-cons s i 0 h, e, add-one)
+
+-- more digits make no value less
+pub value-grows : (v : ℕ) (bs : List ℕ) → v ≤ value v bs
+unfolding value
+value-grows v [] = omega arith
+value-grows v (b ∷ bs) = omega (arith, value-grows (v * 10 + (b - 48)) bs)
+
+-- ---- which fields are naturals
+
+pub natural-empty : (f : List ℕ) → length f ≡ 0 → isNatural f ≡ false
+unfolding isNatural
+natural-empty [] h = refl
+natural-empty (b ∷ bs) h = absurd (omega arith)
+
+pub natural-zero : (f : List ℕ) → (length f ≡ 0 → ⊥) → getD f 0 0 ≡ 48 → isNatural f ≡ eqb (length f) 1
+unfolding isNatural
+natural-zero [] h e = absurd (h refl)
+natural-zero (b ∷ []) h e = rw (eq-eqb _ _ e)
+natural-zero (b ∷ d ∷ bs) h e = rw (eq-eqb _ _ e) (sym (ne-eqb (suc (suc (length bs))) 1 (omega arith)))
+
+pub natural-other : (f : List ℕ) → (length f ≡ 0 → ⊥) → (getD f 0 0 ≡ 48 → ⊥) → isNatural f ≡ allDigits f
+unfolding isNatural
+natural-other [] h n = absurd (h refl)
+natural-other (b ∷ bs) h n = rw (ne-eqb _ _ n)
+
+pub natural-some : (f : List ℕ) → isNatural f ≡ true → 0 < length f
+unfolding isNatural
+natural-some [] h = let z : _≡_ {A = ℕ} 0 1 = (cc) in omega arith
+natural-some (b ∷ bs) h = omega arith

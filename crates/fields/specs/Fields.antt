@@ -1,0 +1,168 @@
+-- The fields of a line: document 01, 'Reading the text'. A field's form comes first, then whether it is carried, then its range;
+-- a separator is read before the field that follows it. Assumes nothing.
+use Prim.Native.Nat.{ℕ, zero, suc, _+_, _-_, _*_}
+use mathlib.Core.List.{List, [], _∷_}
+use mathlib.Core.Bool.{Bool, true, false, _||_, _&&_}
+use lib.ListN.{length, getD, drop}
+use lib.Dec.{leb, ltb, eqb}
+use Rattle.faults.specs.Answer.{pick}
+use Rattle.fields.specs.Reading.{Reading, found, fault, Reader, bind, _>>=_, _>>_, pure, placed}
+use Rattle.fields.specs.declared.Item.{Item}
+use Rattle.fields.specs.declared.Item.the-variants as of
+
+-- ---- bytes
+
+-- the byte at a place, and 0 past the end
+unfoldable pub byteAt : List ℕ → ℕ → ℕ
+byteAt s at = getD s at 0
+
+-- exactly the byte b, which is not 0: past the end stands 0, so a text that ends early is refused at its length
+unfoldable pub byte : ℕ → Reader Unit
+byte b s at = pick (eqb (byteAt s at) b) (found tt (at + 1)) (fault 3 at)
+
+-- these bytes, one by one
+unfoldable pub bytes : List ℕ → Reader Unit
+bytes [] = pure tt
+bytes (b ∷ bs) = do
+  byte b
+  bytes bs
+
+unfoldable pub allPositive : List ℕ → Bool
+allPositive [] = true
+allPositive (b ∷ bs) = ltb 0 b && allPositive bs
+
+-- the bytes before the first that ends them, or all
+unfoldable pub upTo : (ℕ → Bool) → List ℕ → List ℕ
+upTo ends [] = []
+upTo ends (b ∷ bs) = pick (ends b) [] (b ∷ upTo ends bs)
+
+-- a space or a line end
+abbrev pub isSeparator : ℕ → Bool
+isSeparator b = eqb b 32 || eqb b 10
+
+-- no string and no comment holds these
+abbrev pub isForbidden : ℕ → Bool
+isForbidden b = eqb b 0 || eqb b 10
+
+-- a field runs to the next space, line end or end of text
+unfoldable pub field : List ℕ → ℕ → List ℕ
+field s at = upTo isSeparator (drop at s)
+
+-- ---- naturals
+
+abbrev pub isDigit : ℕ → Bool
+isDigit b = leb 48 b && leb b 57
+
+unfoldable pub allDigits : List ℕ → Bool
+allDigits [] = true
+allDigits (b ∷ bs) = isDigit b && allDigits bs
+
+abbrev pub isEmpty : List ℕ → Bool
+isEmpty [] = true
+isEmpty (b ∷ bs) = false
+
+-- `0`, or digits that don't begin with 0
+unfoldable pub isNatural : List ℕ → Bool
+isNatural [] = false
+isNatural (b ∷ bs) = pick (eqb b 48) (isEmpty bs) (allDigits (b ∷ bs))
+
+-- the value of digits, after digits of the value v
+unfoldable pub value : ℕ → List ℕ → ℕ
+value v [] = v
+value v (b ∷ bs) = value (v * 10 + (b - 48)) bs
+
+-- a natural at most `most`, refused by k beyond
+unfoldable pub natural : (k most : ℕ) → Reader ℕ
+natural k most s at =
+    let f = field s at in
+    pick (isNatural f)
+    (pick (leb (value 0 f) most) (found (value 0 f) (at + length f)) (fault k at))
+    (fault 3 at)
+
+-- a space, and what p reads after it
+abbrev pub next : {A : Type 0} → Reader A → Reader A
+next p = do
+  byte 32
+  p
+
+unfoldable pub nextNatural : (k most : ℕ) → Reader ℕ
+nextNatural k most = next (natural k most)
+
+-- ---- integers, kept as one number: 2 v, and 2 v + 1 after a minus
+
+-- the minus sign that stands at the place, and a natural other than 0
+unfoldable pub negative : (most : ℕ) → Reader ℕ
+negative most s at =
+    bind (placed at (natural 5 most s (at + 1))) (λ v n. pick (eqb v 0) (fault 3 at) (found (2 * v + 1) n))
+
+-- a natural, or a minus sign and a natural other than 0: from - low to high
+unfoldable pub integer : (low high : ℕ) → Reader ℕ
+integer low high s at =
+    pick (eqb (byteAt s at) 45)
+    (negative low s at)
+    (bind (natural 5 high s at) (λ v n. found (2 * v) n))
+
+unfoldable pub nextInteger : (low high : ℕ) → Reader ℕ
+nextInteger low high = next (integer low high)
+
+-- an integer other than 0, to an atom
+unfoldable pub literal : Reader ℕ
+literal s at = bind (integer 4096 4096 s at) (λ v n. pick (eqb v 0) (fault 5 at) (found v n))
+
+-- ---- the three countings
+
+-- an atom from 1 to 4,096; k is the refusal of atom 0
+unfoldable pub atom : (k : ℕ) → Reader ℕ
+atom k s at = bind (natural 5 4096 s at) (λ v n. pick (eqb v 0) (fault k at) (found v n))
+
+unfoldable pub nextAtom : (k : ℕ) → Reader ℕ
+nextAtom k = next (atom k)
+
+unfoldable pub nextTerm : Reader ℕ
+nextTerm = nextNatural 5 1023
+
+unfoldable pub nextElement : Reader ℕ
+nextElement = nextNatural 5 1023
+
+-- ---- counted lists and strings
+
+-- a byte of a string; past the end stands 0
+unfoldable pub char : Reader ℕ
+char s at = pick (isForbidden (byteAt s at)) (fault 3 at) (found (byteAt s at) (at + 1))
+
+-- an item of a list: a number after a space, or a byte of a string
+unfoldable pub item : Item → Reader ℕ
+item of.Atom = nextAtom 5
+item of.Literal = next literal
+item of.Term = nextTerm
+item of.Element = nextElement
+item of.Char = char
+
+-- n items
+unfoldable pub items : Item → (n : ℕ) → Reader (List ℕ)
+items what zero = pure []
+items what (suc n) = do
+  x ← item what
+  xs ← items what n
+  pure (x ∷ xs)
+
+-- a count at most `most`, refused by k beyond, and so many items
+unfoldable pub counted : Item → (k most : ℕ) → Reader (List ℕ)
+counted what k most = do
+  n ← nextNatural k most
+  items what n
+
+-- a length, a space and so many bytes
+unfoldable pub string : Reader (List ℕ)
+string = do
+  n ← nextNatural 5 4096
+  byte 32
+  items of.Char n
+
+-- how many bytes stand before the next byte 0 or 10, or the end
+unfoldable pub plain : List ℕ → ℕ → ℕ
+plain s at = length (upTo isForbidden (drop at s))
+
+-- anything up to the line end
+unfoldable pub rest : Reader (List ℕ)
+rest s at = items of.Char (plain s at) s at

@@ -1,0 +1,5 @@
+-- The definitions that the contracts cite.
+pub mod Reading
+pub mod Fields
+pub mod Tape
+pub mod Values

@@ -1,0 +1,243 @@
+// The fields of a line: a byte, a natural, an integer, a literal, an atom, a term number, an element number.
+ghost use mathlib.Core.Path.{_≡_};
+ghost use Prim.Native.Nat.{_≤_, _<_};
+ghost use mathlib.Core.Bool.{true};
+ghost use lib.ListN.{length};
+ghost use Rattle.faults.specs.Values.{number};
+ghost use Rattle.fields.specs.Fields.{allPositive, byteAt, byte, bytes, natural, nextNatural, negative, integer, nextInteger, literal, atom, nextAtom, nextTerm, nextElement, next};
+ghost use Rattle.fields.specs.Values.{asPassed, asWord, asAtom, asTerm, asElement};
+use crate::AtomField;
+use crate::Cursor;
+use crate::ElementField;
+use crate::Passed;
+use crate::TermField;
+use crate::WordField;
+use crate::digits::field_end;
+use crate::digits::is_natural;
+use crate::digits::peek;
+use crate::digits::value_of;
+use faults::AtomNo;
+use faults::ElementNo;
+use faults::Kind;
+use faults::Refusal;
+use faults::TermNo;
+
+impl Cursor {
+    // The byte at the cursor, or 0 past the end.
+    pub fn look(self, s: &[u8]) -> u8
+        ensures { λ r. ⌜ r ≡ byteAt (now (s .entry)) (self .at) ⌝ }
+    {
+        let at = self.at;
+        peek(s, at)
+    }
+
+    // Exactly the byte `b`, which is not 0.
+    pub fn byte(self, s: &[u8], b: u8) -> Passed
+        requires { ⌜ 0 < b ⌝ }
+        ensures { λ r. ⌜ asPassed r ≡ byte b (now (s .entry)) (self .at) ⌝ }
+    {
+        let at = self.at;
+        if peek(s, at) == b {
+            return Passed::Got(Cursor { at: at + 1 });
+        }
+        Passed::Refused(Refusal {
+            kind: Kind::Grammar,
+            place: at,
+        })
+    }
+
+    // Exactly the bytes of `word`, none of which is 0.
+    pub fn bytes(self, s: &[u8], word: &[u8]) -> Passed
+        requires { ⌜ allPositive (now word) ≡ true ⌝ }
+        ensures { λ r. ⌜ asPassed r ≡ bytes (now (word .entry)) (now (s .entry)) (self .at) ⌝ }
+    {
+        let mut c = self;
+        let mut i = 0;
+        while i < word.len() {
+            let a = c.byte(s, word[i]);
+            let Passed::Got(d) = a else {
+                return a;
+            };
+            c = d;
+            i += 1;
+        }
+        Passed::Got(c)
+    }
+
+    // The natural at the cursor, at most `most`, and refused as `beyond` where it is more.
+    pub fn natural(self, s: &[u8], most: u32, beyond: Kind) -> WordField
+        requires { ⌜ most ≤ 1000000 ⌝ }
+        ensures { λ r. ⌜ asWord r ≡ natural (number beyond) most (now (s .entry)) (self .at) ⌝ }
+    {
+        let at = self.at;
+        let end = field_end(s, at);
+        if end <= at {
+            return WordField::Refused(Refusal {
+                kind: Kind::Grammar,
+                place: at,
+            });
+        }
+        let f = &s[at..end];
+        if is_natural(f) {
+            let v = value_of(f, most);
+            if most < v {
+                return WordField::Refused(Refusal {
+                    kind: beyond,
+                    place: at,
+                });
+            }
+            WordField::Got(v, Cursor { at: end })
+        } else {
+            WordField::Refused(Refusal {
+                kind: Kind::Grammar,
+                place: at,
+            })
+        }
+    }
+
+    // A space, and the natural after it.
+    pub fn next_natural(self, s: &[u8], most: u32, beyond: Kind) -> WordField
+        requires { ⌜ most ≤ 1000000 ⌝ }
+        ensures { λ r. ⌜ asWord r ≡ nextNatural (number beyond) most (now (s .entry)) (self .at) ⌝ }
+    {
+        let a = self.byte(s, 32);
+        let Passed::Got(c) = a else {
+            return WordField::Refused(a.refusal());
+        };
+        c.natural(s, most, beyond)
+    }
+
+    // The natural after the minus at the cursor, as 2 v + 1.
+    fn minus(self, s: &[u8], most: u32) -> WordField
+        requires { ⌜ (most ≤ 1000000) × (self .at < length (now s)) ⌝ }
+        ensures { λ r. ⌜ asWord r ≡ negative most (now (s .entry)) (self .at) ⌝ }
+    {
+        let at = self.at;
+        let from = at + 1;
+        let c = Cursor { at: from };
+        let a = c.natural(s, most, Kind::Bounds);
+        let WordField::Got(v, n) = a else {
+            let r = a.refusal();
+            let kind = r.kind;
+            return WordField::Refused(Refusal { kind, place: at });
+        };
+        if v == 0 {
+            return WordField::Refused(Refusal {
+                kind: Kind::Grammar,
+                place: at,
+            });
+        }
+        let double = 2 * v;
+        let code = double + 1;
+        WordField::Got(code, n)
+    }
+
+    // An integer from - low to high, as 2 v, or 2 v + 1 after a minus.
+    fn integer(self, s: &[u8], low: u32, high: u32) -> WordField
+        requires { ⌜ (low ≤ 1000000) × (high ≤ 1000000) ⌝ }
+        ensures { λ r. ⌜ asWord r ≡ integer low high (now (s .entry)) (self .at) ⌝ }
+    {
+        let at = self.at;
+        if peek(s, at) == 45 {
+            return self.minus(s, low);
+        }
+        let a = self.natural(s, high, Kind::Bounds);
+        let WordField::Got(v, n) = a else {
+            return a;
+        };
+        let code = 2 * v;
+        WordField::Got(code, n)
+    }
+
+    // A space, and the integer after it.
+    pub fn next_integer(self, s: &[u8], low: u32, high: u32) -> WordField
+        requires { ⌜ (low ≤ 1000000) × (high ≤ 1000000) ⌝ }
+        ensures { λ r. ⌜ asWord r ≡ nextInteger low high (now (s .entry)) (self .at) ⌝ }
+    {
+        let a = self.byte(s, 32);
+        let Passed::Got(c) = a else {
+            return WordField::Refused(a.refusal());
+        };
+        c.integer(s, low, high)
+    }
+
+    // A literal: an integer other than 0.
+    fn literal(self, s: &[u8]) -> WordField
+        ensures { λ r. ⌜ asWord r ≡ literal (now (s .entry)) (self .at) ⌝ }
+    {
+        let a = self.integer(s, 4096, 4096);
+        let WordField::Got(v, n) = a else {
+            return a;
+        };
+        if v == 0 {
+            let at = self.at;
+            return WordField::Refused(Refusal {
+                kind: Kind::Bounds,
+                place: at,
+            });
+        }
+        WordField::Got(v, n)
+    }
+
+    // A space, and the literal after it.
+    pub fn next_literal(self, s: &[u8]) -> WordField
+        ensures { λ r. ⌜ asWord r ≡ next literal (now (s .entry)) (self .at) ⌝ }
+    {
+        let a = self.byte(s, 32);
+        let Passed::Got(c) = a else {
+            return WordField::Refused(a.refusal());
+        };
+        c.literal(s)
+    }
+
+    // An atom: a natural other than 0, which is refused as `zero`.
+    pub fn atom(self, s: &[u8], zero: Kind) -> AtomField
+        ensures { λ r. ⌜ asAtom r ≡ atom (number zero) (now (s .entry)) (self .at) ⌝ }
+    {
+        let a = self.natural(s, 4096, Kind::Bounds);
+        let WordField::Got(v, n) = a else {
+            return AtomField::Refused(a.refusal());
+        };
+        if v == 0 {
+            let at = self.at;
+            return AtomField::Refused(Refusal {
+                kind: zero,
+                place: at,
+            });
+        }
+        AtomField::Got(AtomNo(v), n)
+    }
+
+    // A space, and the atom after it.
+    pub fn next_atom(self, s: &[u8], zero: Kind) -> AtomField
+        ensures { λ r. ⌜ asAtom r ≡ nextAtom (number zero) (now (s .entry)) (self .at) ⌝ }
+    {
+        let a = self.byte(s, 32);
+        let Passed::Got(c) = a else {
+            return AtomField::Refused(a.refusal());
+        };
+        c.atom(s, zero)
+    }
+
+    // A space, and the term number after it.
+    pub fn next_term(self, s: &[u8]) -> TermField
+        ensures { λ r. ⌜ asTerm r ≡ nextTerm (now (s .entry)) (self .at) ⌝ }
+    {
+        let a = self.next_natural(s, 1023, Kind::Bounds);
+        let WordField::Got(u, c) = a else {
+            return TermField::Refused(a.refusal());
+        };
+        TermField::Got(TermNo(u), c)
+    }
+
+    // A space, and the element number after it.
+    pub fn next_element(self, s: &[u8]) -> ElementField
+        ensures { λ r. ⌜ asElement r ≡ nextElement (now (s .entry)) (self .at) ⌝ }
+    {
+        let a = self.next_natural(s, 1023, Kind::Bounds);
+        let WordField::Got(v, c) = a else {
+            return ElementField::Refused(a.refusal());
+        };
+        ElementField::Got(ElementNo(v), c)
+    }
+}

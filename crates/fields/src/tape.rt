@@ -1,0 +1,169 @@
+// Lists and strings, as words of a tape.
+ghost use mathlib.Core.Path.{_≡_};
+ghost use Prim.Native.Nat.{_≤_, _<_};
+ghost use lib.ListN.{length};
+ghost use Rattle.faults.specs.Values.{number};
+ghost use Rattle.fields.specs.Fields.{char, item, items, counted, string, rest};
+ghost use Rattle.fields.specs.Tape.{onTape, bare, listed};
+ghost use Rattle.fields.specs.Values.{asWord, asWrote, roomy};
+use crate::AtomField;
+use crate::Cursor;
+use crate::ElementField;
+use crate::Item;
+use crate::Passed;
+use crate::TermField;
+use crate::WordField;
+use crate::Wrote;
+use crate::digits::peek;
+use crate::digits::rest_end;
+use faults::Kind;
+use faults::Refusal;
+
+impl Cursor {
+    // A byte of a string.
+    fn char_at(self, s: &[u8]) -> WordField
+        ensures { λ r. ⌜ asWord r ≡ char (now (s .entry)) (self .at) ⌝ }
+    {
+        let at = self.at;
+        let b = peek(s, at);
+        if b == 0 {
+            return WordField::Refused(Refusal {
+                kind: Kind::Grammar,
+                place: at,
+            });
+        }
+        if b == 10 {
+            return WordField::Refused(Refusal {
+                kind: Kind::Grammar,
+                place: at,
+            });
+        }
+        let from = at + 1;
+        WordField::Got(b as u32, Cursor { at: from })
+    }
+
+    // An atom of a head, as a word.
+    fn atom_word(self, s: &[u8]) -> WordField
+        ensures { λ r. ⌜ asWord r ≡ item Item.Atom (now (s .entry)) (self .at) ⌝ }
+    {
+        let a = self.next_atom(s, Kind::Bounds);
+        let AtomField::Got(x, c) = a else {
+            return WordField::Refused(a.refusal());
+        };
+        WordField::Got(x.0, c)
+    }
+
+    // A term number, as a word.
+    fn term_word(self, s: &[u8]) -> WordField
+        ensures { λ r. ⌜ asWord r ≡ item Item.Term (now (s .entry)) (self .at) ⌝ }
+    {
+        let a = self.next_term(s);
+        let TermField::Got(u, c) = a else {
+            return WordField::Refused(a.refusal());
+        };
+        WordField::Got(u.0, c)
+    }
+
+    // An element number, as a word.
+    fn element_word(self, s: &[u8]) -> WordField
+        ensures { λ r. ⌜ asWord r ≡ item Item.Element (now (s .entry)) (self .at) ⌝ }
+    {
+        let a = self.next_element(s);
+        let ElementField::Got(v, c) = a else {
+            return WordField::Refused(a.refusal());
+        };
+        WordField::Got(v.0, c)
+    }
+
+    // An item of a list, as a word.
+    fn item(self, s: &[u8], what: Item) -> WordField
+        ensures { λ r. ⌜ asWord r ≡ item what (now (s .entry)) (self .at) ⌝ }
+    {
+        match what {
+            Item::Atom => self.atom_word(s),
+            Item::Literal => self.next_literal(s),
+            Item::Term => self.term_word(s),
+            Item::Element => self.element_word(s),
+            Item::Char => self.char_at(s),
+        }
+    }
+
+    // `n` items, as words from `out` on.
+    fn items(self, s: &[u8], what: Item, n: u32, tape: &mut [u32], out: usize) -> Wrote
+        requires { ⌜ (out ≤ self .at) × (length (now s) ≤ length (now tape)) ⌝ }
+        ensures { λ r. ⌜ asWrote r (now (tape .exit)) ≡ onTape bare (now (tape .entry)) out (items what n (now (s .entry)) (self .at)) ⌝ }
+        ensures { λ r. ⌜ roomy r ⌝ }
+    {
+        let mut c = self;
+        let mut o = out;
+        let mut left = n;
+        while 0 < left {
+            let a = c.item(s, what);
+            let WordField::Got(v, next) = a else {
+                return Wrote::Refused(a.refusal());
+            };
+            tape[o] = v;
+            o += 1;
+            c = next;
+            left -= 1;
+        }
+        Wrote::Got(c, o)
+    }
+
+    // A count at most `most`, and so many items, as words from `out` on.
+    pub fn counted(
+        self,
+        s: &[u8],
+        what: Item,
+        most: u32,
+        beyond: Kind,
+        tape: &mut [u32],
+        out: usize,
+    ) -> Wrote
+        requires { ⌜ (most ≤ 4096) × (out ≤ self .at) × (length (now s) ≤ length (now tape)) ⌝ }
+        ensures { λ r. ⌜ asWrote r (now (tape .exit)) ≡ onTape listed (now (tape .entry)) out (counted what (number beyond) most (now (s .entry)) (self .at)) ⌝ }
+        ensures { λ r. ⌜ roomy r ⌝ }
+    {
+        let a = self.next_natural(s, most, beyond);
+        let WordField::Got(n, c) = a else {
+            return Wrote::Refused(a.refusal());
+        };
+        tape[out] = n;
+        let o = out + 1;
+        c.items(s, what, n, tape, o)
+    }
+
+    // A length, a space and so many bytes, as words from `out` on.
+    pub fn string(self, s: &[u8], tape: &mut [u32], out: usize) -> Wrote
+        requires { ⌜ (out ≤ self .at) × (length (now s) ≤ length (now tape)) ⌝ }
+        ensures { λ r. ⌜ asWrote r (now (tape .exit)) ≡ onTape listed (now (tape .entry)) out (string (now (s .entry)) (self .at)) ⌝ }
+        ensures { λ r. ⌜ roomy r ⌝ }
+    {
+        let a = self.next_natural(s, 4096, Kind::Bounds);
+        let WordField::Got(n, c) = a else {
+            return Wrote::Refused(a.refusal());
+        };
+        let b = c.byte(s, 32);
+        let Passed::Got(d) = b else {
+            return Wrote::Refused(b.refusal());
+        };
+        tape[out] = n;
+        let o = out + 1;
+        d.items(s, Item::Char, n, tape, o)
+    }
+
+    // The bytes up to the line end, as words from `out` on, behind their count.
+    pub fn rest(self, s: &[u8], tape: &mut [u32], out: usize) -> Wrote
+        requires { ⌜ (out < self .at) × (self .at ≤ length (now s)) × (length (now s) ≤ length (now tape)) × (length (now s) ≤ 60000) ⌝ }
+        ensures { λ r. ⌜ asWrote r (now (tape .exit)) ≡ onTape listed (now (tape .entry)) out (rest (now (s .entry)) (self .at)) ⌝ }
+        ensures { λ r. ⌜ roomy r ⌝ }
+    {
+        let at = self.at;
+        let end = rest_end(s, at);
+        let size = end - at;
+        let n = size as u32;
+        tape[out] = n;
+        let o = out + 1;
+        self.items(s, Item::Char, n, tape, o)
+    }
+}
