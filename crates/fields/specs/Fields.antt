@@ -152,11 +152,17 @@ counted what k most = do
   n ← nextNatural k most
   items what n
 
+-- the length of a string, and the space before its bytes
+unfoldable pub stringLength : Reader ℕ
+stringLength = do
+  n ← nextNatural 5 4096
+  byte 32
+  pure n
+
 -- a length, a space and so many bytes
 unfoldable pub string : Reader (List ℕ)
 string = do
-  n ← nextNatural 5 4096
-  byte 32
+  n ← stringLength
   items of.Char n
 
 -- how many bytes stand before the next byte 0 or 10, or the end

@@ -3,7 +3,7 @@ ghost use mathlib.Core.Path.{_≡_};
 ghost use Prim.Native.Nat.{_≤_, _<_};
 ghost use lib.ListN.{length};
 ghost use Rattle.faults.specs.Values.{number};
-ghost use Rattle.fields.specs.Fields.{char, item, items, counted, string, rest};
+ghost use Rattle.fields.specs.Fields.{char, item, items, counted, stringLength, rest};
 ghost use Rattle.fields.specs.Tape.{onTape, bare, listed};
 ghost use Rattle.fields.specs.Values.{asWord, asWrote, roomy};
 use crate::AtomField;
@@ -110,6 +110,17 @@ impl Cursor {
         Wrote::Got(c, o)
     }
 
+    // The number `n` and `n` items, as words from `out` on.
+    pub fn listed(self, s: &[u8], what: Item, n: u32, tape: &mut [u32], out: usize) -> Wrote
+        requires { ⌜ (out < self .at) × (self .at ≤ length (now s)) × (length (now s) ≤ length (now tape)) ⌝ }
+        ensures { λ r. ⌜ asWrote r (now (tape .exit)) ≡ onTape listed (now (tape .entry)) out (items what n (now (s .entry)) (self .at)) ⌝ }
+        ensures { λ r. ⌜ roomy r ⌝ }
+    {
+        tape[out] = n;
+        let o = out + 1;
+        self.items(s, what, n, tape, o)
+    }
+
     // A count at most `most`, and so many items, as words from `out` on.
     pub fn counted(
         self,
@@ -128,31 +139,25 @@ impl Cursor {
         let WordField::Got(n, c) = a else {
             return Wrote::Refused(a.refusal());
         };
-        tape[out] = n;
-        let o = out + 1;
-        c.items(s, what, n, tape, o)
+        c.listed(s, what, n, tape, out)
     }
 
-    // A length, a space and so many bytes, as words from `out` on.
-    pub fn string(self, s: &[u8], tape: &mut [u32], out: usize) -> Wrote
-        requires { ⌜ (out ≤ self .at) × (length (now s) ≤ length (now tape)) ⌝ }
-        ensures { λ r. ⌜ asWrote r (now (tape .exit)) ≡ onTape listed (now (tape .entry)) out (string (now (s .entry)) (self .at)) ⌝ }
-        ensures { λ r. ⌜ roomy r ⌝ }
+    // The length of a string, and the space before its bytes.
+    pub fn string_length(self, s: &[u8]) -> WordField
+        ensures { λ r. ⌜ asWord r ≡ stringLength (now (s .entry)) (self .at) ⌝ }
     {
         let a = self.next_natural(s, 4096, Kind::Bounds);
         let WordField::Got(n, c) = a else {
-            return Wrote::Refused(a.refusal());
+            return a;
         };
         let b = c.byte(s, 32);
         let Passed::Got(d) = b else {
-            return Wrote::Refused(b.refusal());
+            return WordField::Refused(b.refusal());
         };
-        tape[out] = n;
-        let o = out + 1;
-        d.items(s, Item::Char, n, tape, o)
+        WordField::Got(n, d)
     }
 
-    // The bytes up to the line end, as words from `out` on, behind their count.
+    // The bytes up to the line end behind their count, as words from `out` on.
     pub fn rest(self, s: &[u8], tape: &mut [u32], out: usize) -> Wrote
         requires { ⌜ (out < self .at) × (self .at ≤ length (now s)) × (length (now s) ≤ length (now tape)) × (length (now s) ≤ 60000) ⌝ }
         ensures { λ r. ⌜ asWrote r (now (tape .exit)) ≡ onTape listed (now (tape .entry)) out (rest (now (s .entry)) (self .at)) ⌝ }
@@ -162,8 +167,6 @@ impl Cursor {
         let end = rest_end(s, at);
         let size = end - at;
         let n = size as u32;
-        tape[out] = n;
-        let o = out + 1;
-        self.items(s, Item::Char, n, tape, o)
+        self.listed(s, Item::Char, n, tape, out)
     }
 }

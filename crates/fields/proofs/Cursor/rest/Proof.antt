@@ -1,12 +1,10 @@
 -- `fields::Cursor::rest` meets its contract: the end that was found gives the count, and so many bytes are read. Assumes nothing.
 use Prim.Native.Nat.{_-_}
-use mathlib.Core.Path.{_≡_, _∙_}
+use mathlib.Core.Path.{_≡_}
 use native.Mathlib.Omega.{arith}
 use borrow.Author.Needs.{needs}
-use lib.ListN.{length-set}
 use Rattle.fields.specs.Fields.{plain, rest}
 use Rattle.fields.proofs.Naturals.{plain-within}
-use Rattle.fields.proofs.Taping.{counted-items}
 use Rattle.fields.proofs.Cursor.rest.Statement.{statement}
 use Rattle.fields.proofs.Cursor.rest.Tie as tie
 
@@ -19,37 +17,19 @@ sub-size c = search needs
 cast-n : tie.Need-cast-n
 cast-n c = omega (arith, plain-within (c .before .before .before .args .s .now) (c .before .before .before .args .self .at) (c .before .before .before .pre .1))
 
-mul-tape : tie.Need-mul-tape
-mul-tape c = search needs
-
-slice-write-tape : tie.Need-slice-write-tape
-slice-write-tape c = search needs
-
-add-o : tie.Need-add-o
-add-o c = search needs
-
-items-requires : tie.Need-items-requires
-items-requires c κs = (search needs, simp length-set (search needs))
+listed-requires : tie.Need-listed-requires
+listed-requires c κs = search needs
 
 same-length : tie.Need-same-length
-same-length c = c .before .before .items .kept .1 .1 .1 .1 .0 ∙ simp length-set
+same-length c = search needs
 
 returns : tie.Need-returns
 unfolding rest
 returns c =
     let e : c .before .before .before .before .rest-end .result - c .before .before .before .before .before .before .before .args .self .at ≡ plain (c .before .before .before .before .before .before .before .args .s .now) (c .before .before .before .before .before .before .before .args .self .at) = omega arith in
-    (rw (← e) (c .before .before .items .ensures .0 ∙ counted-items _ _ _ _ _ _), c .before .before .items .ensures .1)
+    (rw (← e) (c .before .before .listed .ensures .0), c .before .before .listed .ensures .1)
 
 pub rest-spec : {M : Type 1} → statement M
 rest-spec =
     tie.close
-    (tie.spec
-    rest-end-requires
-    sub-size
-    cast-n
-    mul-tape
-    slice-write-tape
-    add-o
-    items-requires
-    same-length
-    returns)
+    (tie.spec rest-end-requires sub-size cast-n listed-requires same-length returns)
