@@ -2,13 +2,14 @@
 use Prim.Native.Nat.{ℕ, suc, _+_, _-_, _*_, _≤_, _<_}
 use mathlib.Core.Path.{_≡_, refl, sym}
 use mathlib.Core.List.{List, [], _∷_}
-use mathlib.Core.Bool.{true, false}
-use borrow.Author.Tests.{eq-eqb, ne-eqb}
-use lib.Dec.{eqb}
+use mathlib.Core.Bool.{Bool, true, false, _&&_}
+use borrow.Author.Tests.{eq-eqb, ne-eqb, eqb-true, leb-true}
+use lib.Dec.{eqb, leb}
 use native.Mathlib.Omega.{arith}
 use native.Mathlib.Numerals.{add-one}
 use lib.ListN.{length, getD, drop, drop-of-length-le}
 use lib.Seq.{drop-cons}
+use Rattle.faults.specs.Answer.{pick}
 use Rattle.fields.specs.Fields.{allDigits, isDigit, value, isNatural}
 
 module _ (s : List ℕ) (i : ℕ) where
@@ -60,3 +61,15 @@ pub natural-some : (f : List ℕ) → isNatural f ≡ true → 0 < length f
 unfolding isNatural
 natural-some [] h = let z : _≡_ {A = ℕ} 0 1 = (cc) in omega arith
 natural-some (b ∷ bs) h = omega arith
+
+pub two-digits : (f : List ℕ) → isNatural f ≡ true → value 0 f ≡ 10 → 1 < length f
+unfolding isNatural value allDigits
+two-digits [] h e = let z : _≡_ {A = ℕ} 0 1 = (cc) in absurd (omega arith)
+two-digits (b ∷ []) h e = go (eqb b 48) refl (leb 48 b) refl (leb b 57) refl h
+  where
+    go : (t : Bool) → eqb b 48 ≡ t → (u : Bool) → leb 48 b ≡ u → (w : Bool) → leb b 57 ≡ w → pick t true ((u && w) && true) ≡ true → 1 < suc 0
+    go true p u q w r i = omega (arith, eqb-true b 48 p)
+    go false p true q true r i = omega (arith, leb-true b 57 r)
+    go false p true q false r i = let z : _≡_ {A = ℕ} 0 1 = (cc) in absurd (omega arith)
+    go false p false q w r i = let z : _≡_ {A = ℕ} 0 1 = (cc) in absurd (omega arith)
+two-digits (b ∷ d ∷ bs) h e = omega arith

@@ -11,7 +11,7 @@ use Rattle.faults.specs.Answer.{pick}
 use Rattle.fields.specs.Reading.{found, fault}
 use Rattle.fields.specs.Fields.{field, isSeparator, isForbidden, plain, value, isNatural, natural, byteAt, byte}
 use Rattle.fields.proofs.Runs.{upTo-length, upTo-take}
-use Rattle.fields.proofs.Decimal.{natural-empty, natural-some}
+use Rattle.fields.proofs.Decimal.{natural-empty, natural-some, two-digits}
 
 module _ (s : List ℕ) (at e : ℕ) (ends : e ≡ at + length (field s at)) where
   field-part : take (e - at) (drop at s) ≡ field s at
@@ -94,3 +94,17 @@ natural-within k most s at v n = go (isNatural (field s at)) refl (leb (value 0 
         (omega (arith, leb-true (value 0 (field s at)) most q), l, field-within s at n b l)
     go true p false q e = let z : _≡_ {A = ℕ} 0 1 = (cc) in absurd (omega arith)
     go false p u q e = let z : _≡_ {A = ℕ} 0 1 = (cc) in absurd (omega arith)
+
+-- a number of two digits is of two bytes
+pub ten-far : (k most : ℕ) (s : List ℕ) (at v n : ℕ) → found v n ≡ natural k most s at → v ≡ 10 → at + 1 < n
+unfolding natural
+ten-far k most s at v n = go (field s at) (isNatural (field s at)) refl (leb (value 0 (field s at)) most)
+  where
+    go : (f : List ℕ) (t : Bool) → isNatural f ≡ t → (u : Bool)
+        → found v n ≡ pick t (pick u (found (value 0 f) (at + length f)) (fault k at)) (fault 3 at) → v ≡ 10 → at + 1 < n
+    go f true p true e z =
+        let a : v ≡ value 0 f = (cc) in
+        let b : n ≡ at + length f = (cc) in
+        omega (arith, two-digits f p (sym a ∙ z))
+    go f true p false e z = let w : _≡_ {A = ℕ} 0 1 = (cc) in absurd (omega arith)
+    go f false p u e z = let w : _≡_ {A = ℕ} 0 1 = (cc) in absurd (omega arith)

@@ -78,3 +78,7 @@ refusalOfTerm (term.Refused r) = r
 abbrev pub refusalOfElement : ElementField → Refusal
 refusalOfElement (element.Got v c) = at c
 refusalOfElement (element.Refused r) = r
+
+abbrev pub refusalOfWrote : Wrote → Refusal
+refusalOfWrote (wrote.Got c o) = at c
+refusalOfWrote (wrote.Refused r) = r

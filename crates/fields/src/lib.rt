@@ -1,6 +1,6 @@
 // A cursor on a text, and the fields of a line: each method takes the cursor and gives the field with the next cursor.
 ghost use mathlib.Core.Path.{_≡_};
-ghost use Rattle.fields.specs.Values.{refusalOfPassed, refusalOfWord, refusalOfAtom, refusalOfTerm, refusalOfElement};
+ghost use Rattle.fields.specs.Values.{refusalOfPassed, refusalOfWord, refusalOfAtom, refusalOfTerm, refusalOfElement, refusalOfWrote};
 use faults::AtomNo;
 use faults::ElementNo;
 use faults::Kind;
@@ -130,6 +130,18 @@ impl ElementField {
         match self {
             ElementField::Got(_, c) => c.none(),
             ElementField::Refused(r) => r,
+        }
+    }
+}
+
+impl Wrote {
+    // The refusal of an answer that is one.
+    pub fn refusal(self) -> Refusal
+        ensures { λ r. ⌜ r ≡ refusalOfWrote self ⌝ }
+    {
+        match self {
+            Wrote::Got(c, _) => c.none(),
+            Wrote::Refused(r) => r,
         }
     }
 }
