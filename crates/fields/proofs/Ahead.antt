@@ -9,7 +9,7 @@ use lib.Dec.{eqb, lit<}
 use borrow.Author.Tests.{eqb-true, eqb-false}
 use Rattle.faults.specs.Answer.{pick}
 use Rattle.fields.specs.Reading.{Reading, found, fault, bind, placed}
-use Rattle.fields.specs.Fields.{byteAt, byte, natural, negative, integer, nextInteger, literal, atom, nextAtom, item, next, nextNatural, char, nextTerm, nextElement}
+use Rattle.fields.specs.Fields.{stringLength, byteAt, byte, natural, negative, integer, nextInteger, literal, atom, nextAtom, item, next, nextNatural, char, nextTerm, nextElement}
 use Rattle.fields.specs.declared.Item.{Item}
 use Rattle.fields.proofs.Naturals.{there, natural-within}
 use Rattle.fields.specs.declared.Item.the-variants as of
@@ -99,9 +99,15 @@ pub nextTerm-far : (s : List ℕ) (at : ℕ) → Ahead s (at + 1) (nextTerm s at
 unfolding nextTerm
 nextTerm-far s at = nextNatural-far 5 1023 s at
 
-nextElement-far : (s : List ℕ) (at : ℕ) → Ahead s (at + 1) (nextElement s at)
+pub nextElement-far : (s : List ℕ) (at : ℕ) → Ahead s (at + 1) (nextElement s at)
 unfolding nextElement
 nextElement-far s at = nextNatural-far 5 1023 s at
+
+pub stringLength-far : (s : List ℕ) (at : ℕ) → Ahead s (at + 2) (stringLength s at)
+unfolding stringLength
+stringLength-far s at =
+    ahead-then s (at + 2) (at + 1) _ _ (nextNatural-far 5 4096 s at) (λ k n l w.
+    ahead-then s (at + 2) n _ _ (byte-ahead s n 32 (lit< tt)) (λ u m i j. ahead-found s (at + 2) k m (omega arith) j))
 
 char-ahead : (s : List ℕ) (at : ℕ) → Ahead s at (char s at)
 unfolding char

@@ -8,9 +8,10 @@ use native.Mathlib.Numerals.{add-one}
 use lib.ListN.{length, set, length-append}
 use lib.Seq.{sets}
 use Rattle.fields.specs.Reading.{Reading, found, fault, bind}
-use Rattle.fields.specs.Fields.{item, items}
+use Rattle.fields.specs.Fields.{byte, natural, nextNatural, item, items, counted}
 use Rattle.fields.specs.Tape.{written, onTape, bare, listed}
 use Rattle.fields.specs.declared.Item.{Item}
+use Rattle.fields.proofs.Naturals.{natural-within}
 
 -- ---- reading n items
 
@@ -70,6 +71,24 @@ counted-items what n s at t o = go (items what n s at) (items-length what n s at
         rw (d, e, add-one)
     go (fault k p) h = refl
 
+-- a number that was read is at most the bound
+pub nextNatural-within : (k most : ℕ) (s : List ℕ) (at v n : ℕ) → found v n ≡ nextNatural k most s at → v ≤ most
+unfolding nextNatural
+nextNatural-within k most s at v n = go (byte 32 s at)
+  where
+    go : (a : Reading Unit) → found v n ≡ bind a (λ u m. natural k most s m) → v ≤ most
+    go (found u m) e = natural-within k most s m v n e .0
+    go (fault i p) e = let z : _≡_ {A = ℕ} 0 1 = (cc) in absurd (omega arith)
+
+-- a counted list has at most as many items as the bound says
+pub counted-few : (what : Item) (k most : ℕ) (s : List ℕ) (at : ℕ) (xs : List ℕ) (n : ℕ) → found xs n ≡ counted what k most s at → length xs ≤ most
+unfolding counted
+counted-few what k most s at xs n e = go (nextNatural k most s at) refl e
+  where
+    go : (a : Reading ℕ) → nextNatural k most s at ≡ a → found xs n ≡ bind a (λ c m. items what c s m) → length xs ≤ most
+    go (found c m) h e = omega (arith, items-length what c s m xs n e, nextNatural-within k most s at c m (sym h))
+    go (fault i p) h e = let z : _≡_ {A = ℕ} 0 1 = (cc) in absurd (omega arith)
+
 -- ---- what is known where words were written
 
 -- the words of x were written: what was read, what the tape holds, its next place
@@ -95,6 +114,11 @@ stopped words t o (fault i p) {k} {q} e =
     let y : i ≡ k = (cc) in
     let z : p ≡ q = (cc) in
     rw (y, z)
+
+-- a fault leaves no words
+pub on-fault : {A : Type 0} (words : A → List ℕ) (t : List ℕ) (o k q : ℕ) → fault k q ≡ onTape words t o (fault k q)
+unfolding onTape
+on-fault words t o k q = refl
 
 pub sets-append : (t : List ℕ) (o : ℕ) (xs ys : List ℕ) → sets (sets t o xs) (o + length xs) ys ≡ sets t o (xs ++ ys)
 sets-append t o [] ys = rw add-zero

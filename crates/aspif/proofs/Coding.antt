@@ -1,0 +1,87 @@
+-- What words say has these words: a literal's, an integer's, a head's. Assumes nothing.
+use Prim.Native.Nat.{ℕ, zero, suc, _+_, _*_, _/_, _%_, _≤_}
+use mathlib.Core.Path.{_≡_, refl, sym}
+use mathlib.Core.List.{List, [], _∷_, map}
+use mathlib.Core.Bool.{Bool, true, false}
+use native.Mathlib.Omega.{arith}
+use borrow.Author.Tests.{eqb-true, eqb-false}
+use lib.Dec.{eqb}
+use lib.IntN.{pos, negℤ}
+use lib.ListN.{length}
+use Rattle.faults.specs.Answer.{pick}
+use Rattle.fields.specs.Reading.{found, placed}
+use Rattle.fields.specs.Fields.{byteAt, byte, natural, negative, integer, nextInteger}
+use Rattle.fields.specs.Tape.{listed}
+use Rattle.fields.proofs.Taping.{counted-few}
+use Rattle.aspif.specs.Statements.{positive, negated}
+use Rattle.aspif.specs.Grammar.{literalOf, integerOf, headOf, heads}
+use Rattle.aspif.specs.Words.{literalWord, integerWord, headWords}
+use Rattle.aspif.proofs.Always.{Always, always-found, always-after, always-pick, always-unless}
+use Rattle.fields.specs.declared.Item.the-variants as of
+
+-- ---- the halves of a word
+
+module _ (w : ℕ) where
+  word-even : w % 2 ≡ 0 → 2 * (w / 2) ≡ w
+  word-even h = omega arith
+
+  word-odd : (w % 2 ≡ 0 → ⊥) → 2 * (w / 2) + 1 ≡ w
+  word-odd h = omega (arith, h)
+
+-- ---- a literal
+
+-- a word is the word of the literal that it says
+pub literal-forth : (w : ℕ) → literalWord (literalOf w) ≡ w
+literal-forth w = go (eqb (w % 2) 0) refl
+  where
+    go : (t : Bool) → eqb (w % 2) 0 ≡ t → literalWord (pick t (positive (w / 2)) (negated (w / 2))) ≡ w
+    go true q = word-even w (eqb-true (w % 2) 0 q)
+    go false q = word-odd w (eqb-false (w % 2) 0 q)
+
+-- words are the words of the literals that they say
+pub literals-forth : (ws : List ℕ) → map literalWord (map literalOf ws) ≡ ws
+literals-forth [] = refl
+literals-forth (w ∷ ws) = rw (literal-forth w, literals-forth ws)
+
+-- ---- an integer
+
+-- a word other than 1, minus 0, is the word of the integer that it says
+integer-word : (w : ℕ) → (w ≡ 1 → ⊥) → integerWord (integerOf w) ≡ w
+integer-word w o = go (eqb (w % 2) 0) refl
+  where
+    minus : (v : ℕ) → 2 * v + 1 ≡ w → integerWord (negℤ (pos v)) ≡ w
+    minus zero e = absurd (o (sym e))
+    minus (suc v) e = e
+
+    go : (t : Bool) → eqb (w % 2) 0 ≡ t → integerWord (pick t (pos (w / 2)) (negℤ (pos (w / 2)))) ≡ w
+    go true q = word-even w (eqb-true (w % 2) 0 q)
+    go false q = minus (w / 2) (word-odd w (eqb-false (w % 2) 0 q))
+
+-- an integer is never read as minus 0
+not-minus : (low high : ℕ) (s : List ℕ) (at : ℕ) → Always (λ w n. w ≡ 1 → ⊥) (nextInteger low high s at)
+unfolding nextInteger integer negative
+not-minus low high s at =
+    always-after (byte 32 s at) _ (λ u m.
+    always-pick (eqb (byteAt s m) 45)
+    (always-after (placed m (natural 5 low s (m + 1))) _ (λ v n. always-unless (eqb v 0) 3 m (2 * v + 1) n (λ q e. omega (arith, eqb-false v 0 q))))
+    (always-after (natural 5 high s m) _ (λ v n. always-found (2 * v) n (λ e. omega arith))))
+
+-- the word of an integer that was read is the word of the integer that it says
+pub integer-forth : (low high : ℕ) (s : List ℕ) (at w n : ℕ) → found w n ≡ nextInteger low high s at → integerWord (integerOf w) ≡ w
+integer-forth low high s at w n e = integer-word w (not-minus low high s at .holds w n e)
+
+-- ---- a head
+
+-- the words of a head are its kind and the list of its atoms
+pub head-forth : (kind : ℕ) (hs : List ℕ) → kind ≤ 1 → (kind ≡ 0 → length hs ≤ 1) → headWords (headOf kind hs) ≡ kind ∷ listed hs
+head-forth zero [] h l = refl
+head-forth zero (a ∷ []) h l = refl
+head-forth zero (a ∷ b ∷ hs) h l = absurd (omega (arith, l refl))
+head-forth (suc zero) hs h l = refl
+head-forth (suc (suc k)) hs h l = absurd (omega arith)
+
+-- a plain head that was read has at most one atom
+pub heads-few : (kind : ℕ) (s : List ℕ) (at : ℕ) (hs : List ℕ) (n : ℕ) → found hs n ≡ heads kind s at → kind ≡ 0 → length hs ≤ 1
+unfolding heads
+heads-few zero s at hs n e z = counted-few of.Atom 4 1 s at hs n e
+heads-few (suc kind) s at hs n e z = absurd (omega arith)

@@ -1,0 +1,10 @@
+-- General laws.
+pub mod Always
+pub mod Coding
+pub mod Decoding
+pub mod Bounds
+pub mod Counter
+pub mod Marks
+pub mod Candidates
+pub mod Ending
+pub mod Turns

@@ -1,0 +1,123 @@
+-- The loop over the lines of a text: what is left to read gives the whole answer, and the tape has the words of the lines so far.
+-- Assumes nothing.
+use Prim.Native.Nat.{ℕ, zero, suc, _+_, _-_, _≤_, _<_}
+use mathlib.Core.Path.{_≡_, refl, sym}
+use mathlib.Core.List.{List, [], _∷_, _++_, append-assoc, append-nil}
+use native.Mathlib.Omega.{arith}
+use borrow.Author.Tests.{eq-eqb, ne-eqb}
+use lib.ListN.{length, length-append}
+use lib.Seq.{sets}
+use Rattle.faults.specs.Answer.{got}
+use Rattle.fields.specs.Reading.{Reading, found, fault, bind}
+use Rattle.fields.specs.Fields.{natural}
+use Rattle.fields.proofs.Taping.{On, on-start, on-more}
+use Rattle.aspif.specs.Statements.{Line}
+use Rattle.aspif.specs.Grammar.{answer, statementOf, lastLine, lines}
+use Rattle.aspif.specs.Words.{words, allWords, linesOf, Taped}
+use Rattle.aspif.specs.Values.{taped}
+use Rattle.aspif.proofs.Decoding.{lines-back, within-back}
+use Rattle.aspif.proofs.Bounds.{lines-small}
+
+-- ---- one turn: what `left` lines from a place on give, for each way through the loop's body
+
+module _ (s : List ℕ) (at : ℕ) where
+  pub turn-none : (left : ℕ) → left ≤ 0 → lines left s at ≡ fault 3 at
+  unfolding lines
+  turn-none left h = let e : left ≡ 0 = omega arith in rw e
+
+  pub turn-stop : (left i q : ℕ) → 0 < left → fault i q ≡ natural 3 10 s at → lines left s at ≡ fault i q
+  unfolding lines
+  turn-stop zero i q h e = absurd (omega arith)
+  turn-stop (suc l) i q h e = rw (← e)
+
+  pub last-stop : (left k m i q : ℕ) → 0 < left → found k m ≡ natural 3 10 s at → k ≡ 0 → fault i q ≡ lastLine s m → lines left s at ≡ fault i q
+  unfolding lines
+  last-stop zero k m i q h e z d = absurd (omega arith)
+  last-stop (suc l) k m i q h e z d = rw (← e, eq-eqb _ _ z, ← d)
+
+  pub last-goes : (left k m n : ℕ) → 0 < left → found k m ≡ natural 3 10 s at → k ≡ 0 → found tt n ≡ lastLine s m → lines left s at ≡ found [] n
+  unfolding lines
+  last-goes zero k m n h e z d = absurd (omega arith)
+  last-goes (suc l) k m n h e z d = rw (← e, eq-eqb _ _ z, ← d)
+
+  pub line-stop : (left k m i q : ℕ) → 0 < left → found k m ≡ natural 3 10 s at → (k ≡ 0 → ⊥)
+      → statementOf k at s m ≡ fault i q → lines left s at ≡ fault i q
+  unfolding lines
+  line-stop zero k m i q h e z d = absurd (omega arith)
+  line-stop (suc l) k m i q h e z d = rw (← e, ne-eqb _ _ z, d)
+
+  pub line-goes : (left k m n : ℕ) (x : Line) → 0 < left → found k m ≡ natural 3 10 s at → (k ≡ 0 → ⊥)
+      → statementOf k at s m ≡ found x n → lines left s at ≡ bind (lines (left - 1) s n) (λ xs l. found (x ∷ xs) l)
+  unfolding lines
+  line-goes zero k m n x h e z d = absurd (omega arith)
+  line-goes (suc l) k m n x h e z d =
+      let w : suc l - 1 ≡ l = omega arith in
+      rw (w, ← e, ne-eqb _ _ z, d)
+
+-- ---- the loop
+
+-- n lines were to be read from `from` on, `left` are still, from `at` on; the tape t is u with the words of those done
+pub record Reached (s : List ℕ) (n : ℕ) (t : List ℕ) (from : ℕ) (u : List ℕ) (at o left : ℕ) : Type 0 where
+  pub done : List Line
+  pub whole : lines n s from ≡ bind (lines left s at) (λ xs m. found (done ++ xs) m)
+  pub on : On t 0 (allWords done) u o
+  pub count : length done + left ≡ n
+  pub room : o ≤ at
+
+bind-found : {A : Type 0} (a : Reading A) → a ≡ bind a (λ x n. found x n)
+bind-found (found x n) = refl
+bind-found (fault k p) = refl
+
+pub reach-start : (s : List ℕ) (n : ℕ) (t : List ℕ) (from : ℕ) → Reached s n t from t from 0 n
+reach-start s n t from =
+    record { done = []; whole = bind-found (lines n s from); on = on-start t 0; count = omega arith; room = omega arith }
+
+all-snoc : (xs : List Line) (x : Line) → allWords (xs ++ (x ∷ [])) ≡ allWords xs ++ words x
+all-snoc [] x = append-nil (words x)
+all-snoc (y ∷ xs) x = rw (all-snoc xs x) (sym (append-assoc (words y) (allWords xs) (words x)))
+
+module _ (s : List ℕ) (n : ℕ) (t : List ℕ) (from : ℕ) (u : List ℕ) (at o left : ℕ) (r : Reached s n t from u at o left) where
+  pub reach-fault : (k q : ℕ) → lines left s at ≡ fault k q → lines n s from ≡ fault k q
+  reach-fault k q e = rw (r .whole, e)
+
+  pub reach-more : (x : Line) (at′ o′ left′ : ℕ) (u′ : List ℕ)
+      → lines left s at ≡ bind (lines left′ s at′) (λ xs l. found (x ∷ xs) l)
+      → u′ ≡ sets u o (words x) → o′ ≡ o + length (words x) → o′ ≤ at′ → suc left′ ≡ left → Reached s n t from u′ at′ o′ left′
+  reach-more x at′ o′ left′ u′ e p q h c =
+      record {
+        done = r .done ++ (x ∷ []);
+        whole = rw (r .whole, e) (go (lines left′ s at′));
+        on = rw (all-snoc (r .done) x) (on-more t 0 (allWords (r .done)) (words x) (r .on) p q);
+        count = omega (arith, r .count, length-append (r .done) (x ∷ []));
+        room = h;
+      }
+    where
+      go : (a : Reading (List Line)) → bind (bind a (λ xs l. found (x ∷ xs) l)) (λ xs m. found (r .done ++ xs) m) ≡ bind a (λ xs m. found ((r .done ++ (x ∷ [])) ++ xs) m)
+      go (found xs l) = rw (append-assoc (r .done) (x ∷ []) xs)
+      go (fault k p) = refl
+
+  -- the line `0` was read: the lines done are all
+  pub reach-end : (m : ℕ) → lines left s at ≡ found [] m → lines n s from ≡ found (r .done) m
+  reach-end m e = rw (r .whole, e, append-nil (r .done))
+
+  module _ (m : ℕ) (e : lines left s at ≡ found [] m) (fits : o ≤ length t) where
+    enough : length (allWords (r .done)) ≤ length t
+    enough = omega (arith, r .on .next)
+
+    counted : n - left ≡ length (r .done)
+    counted = omega (arith, r .count)
+
+    pub end-taped : got (record { tape = u; lines = n - left }) ≡ taped t (answer (lines n s from))
+    unfolding taped
+    end-taped = rw (reach-end m e, r .on .tape, counted)
+
+    pub end-lines : got (linesOf u (n - left)) ≡ answer (lines n s from)
+    end-lines = rw (reach-end m e, r .on .tape, counted, lines-back (r .done) t enough)
+
+    pub end-walks : length s ≤ 60000 → Taped u (n - left)
+    end-walks l =
+        rw (r .on .tape, counted)
+        (record {
+          within = within-back (r .done) t enough;
+          small = rw (lines-back (r .done) t enough) (lines-small n s from (r .done) m l (sym (reach-end m e)));
+        })

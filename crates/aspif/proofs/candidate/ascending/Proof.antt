@@ -1,0 +1,123 @@
+-- `aspif::candidate::ascending` meets its contract. The invariant: the atoms marked so far, with those that are read from `d` on, are the whole answer.
+-- The measure is what is left above `low`. Assumes nothing.
+use Prim.Native.Nat.{_-_}
+use mathlib.Core.Path.{sym, ap, _∙_}
+use native.Mathlib.Omega.{arith}
+use lib.Dec.{lit<}
+use lib.ListN.{length-set}
+use borrow.Author.Needs.{needs}
+use Rattle.fields.specs.Values.{asAtom, asPassed}
+use Rattle.fields.proofs.Naturals.{there}
+use Rattle.aspif.specs.Candidate.{ascending}
+use Rattle.aspif.proofs.Candidates.{above-bounds, Marking, marking-start, marking-more, marking-out, marking-stop, marking-open, marking-last}
+use Rattle.aspif.proofs.candidate.ascending.Statement.{statement}
+use Rattle.aspif.proofs.candidate.ascending.Tie as tie
+
+abbrev Inv-loop : tie.InvT-loop
+Inv-loop s x₀ d₀ low₀ x d low = Marking s x low (d .at) (ascending 4096 0 s (d₀ .at))
+
+abbrev μ-loop : tie.MeasureT-loop
+μ-loop s x₀ d₀ low₀ x d low = 4096 - low
+
+loop-holds : tie.Need-loop-holds Inv-loop μ-loop
+loop-holds c = marking-start (c .before .before .pre)
+
+atom-above-requires : tie.Need-atom-above-requires Inv-loop μ-loop
+atom-above-requires c κs = search needs
+
+enum-known-a : tie.Need-enum-known-a Inv-loop μ-loop
+enum-known-a c = search needs
+
+enum-told : tie.Need-enum-told Inv-loop μ-loop
+enum-told c = search needs
+
+refusal-requires : tie.Need-refusal-requires Inv-loop μ-loop
+refusal-requires c κs = search needs
+
+same-length : tie.Need-same-length Inv-loop μ-loop
+same-length c = search needs
+
+returns : tie.Need-returns Inv-loop μ-loop
+returns c = rw (c .refusal .ensures, c .before .enum-told .given .1) (marking-stop (c .before .before .before .before .before .loop .inv) (c .before .before .before .before .loop-test .taken) (sym (ap asAtom (c .before .enum-told .given .1)) ∙ c .before .before .before .atom-above .ensures))
+
+cast-i : tie.Need-cast-i Inv-loop μ-loop
+cast-i c = search needs
+
+slice-write-x : tie.Need-slice-write-x Inv-loop μ-loop
+slice-write-x c = omega (arith, above-bounds _ _ _ (sym (ap asAtom (c .before .before .a .given .1)) ∙ c .before .before .before .before .atom-above .ensures), c .before .before .before .before .before .before .loop .inv .places)
+
+look-requires : tie.Need-look-requires Inv-loop μ-loop
+look-requires c κs = search needs
+
+ending-requires : tie.Need-ending-requires Inv-loop μ-loop
+ending-requires c κs = search needs
+
+enum-told-2 : tie.Need-enum-told-2 Inv-loop μ-loop
+enum-told-2 c = search needs
+
+enum-told-3 : tie.Need-enum-told-3 Inv-loop μ-loop
+enum-told-3 c = search needs
+
+refusal-requires-2 : tie.Need-refusal-requires-2 Inv-loop μ-loop
+refusal-requires-2 c κs = search needs
+
+same-length-2 : tie.Need-same-length-2 Inv-loop μ-loop
+same-length-2 c = simp length-set (omega arith)
+
+returns-2 : tie.Need-returns-2 Inv-loop μ-loop
+returns-2 c = rw (c .refusal2 .ensures, c .before .enum-told3 .given .1) (marking-open (c .before .before .before .before .before .before .before .before .before .before .before .before .loop .inv) (c .before .before .before .before .before .before .before .before .before .before .before .loop-test .taken) (sym (ap asAtom (c .before .before .before .before .before .before .before .before .a .given .1)) ∙ c .before .before .before .before .before .before .before .before .before .before .atom-above .ensures) (λ h. c .before .before .before .before .if1 .taken (c .before .before .before .before .before .look .ensures ∙ h)) (sym (ap asPassed (c .before .enum-told3 .given .1)) ∙ c .before .before .before .ending .ensures))
+
+same-length-3 : tie.Need-same-length-3 Inv-loop μ-loop
+same-length-3 c = simp length-set (omega arith)
+
+returns-3 : tie.Need-returns-3 Inv-loop μ-loop
+returns-3 c = marking-last (c .before .before .before .before .before .before .before .before .before .before .before .loop .inv) (c .before .before .before .before .before .before .before .before .before .before .loop-test .taken) (sym (ap asAtom (c .before .before .before .before .before .before .before .a .given .1)) ∙ c .before .before .before .before .before .before .before .before .before .atom-above .ensures) (λ h. c .before .before .before .if1 .taken (c .before .before .before .before .look .ensures ∙ h)) (sym (ap asPassed (c .enum-told2 .given .1)) ∙ c .before .before .ending .ensures)
+
+add-next : tie.Need-add-next Inv-loop μ-loop
+add-next c = omega (arith, there 32 _ _ (lit< tt) (sym (c .before .look .ensures) ∙ c .if1 .left))
+
+loop-less : tie.Need-loop-less Inv-loop μ-loop
+loop-less c = omega (arith, above-bounds _ _ _ (sym (ap asAtom (c .before .before .before .before .a .given .1)) ∙ c .before .before .before .before .before .before .atom-above .ensures))
+
+loop-again : tie.Need-loop-again Inv-loop μ-loop
+loop-again c = marking-more (c .before .before .before .before .before .before .before .before .loop .inv) (c .before .before .before .before .before .before .before .loop-test .taken) (sym (ap asAtom (c .before .before .before .before .a .given .1)) ∙ c .before .before .before .before .before .before .atom-above .ensures) (sym (c .before .look .ensures) ∙ c .if1 .left)
+
+seven-requires : tie.Need-seven-requires Inv-loop μ-loop
+seven-requires c κs = search needs
+
+same-length-4 : tie.Need-same-length-4 Inv-loop μ-loop
+same-length-4 c = search needs
+
+returns-4 : tie.Need-returns-4 Inv-loop μ-loop
+returns-4 c = rw (c .seven .ensures) (marking-out (c .before .before .loop .inv) (c .before .loop-test .left))
+
+pub ascending-spec : {M : Type 1} → statement M
+ascending-spec =
+    tie.close
+    (tie.spec
+    Inv-loop
+    μ-loop
+    loop-holds
+    atom-above-requires
+    enum-known-a
+    enum-told
+    refusal-requires
+    same-length
+    returns
+    cast-i
+    slice-write-x
+    look-requires
+    ending-requires
+    enum-told-2
+    enum-told-3
+    refusal-requires-2
+    same-length-2
+    returns-2
+    same-length-3
+    returns-3
+    add-next
+    loop-less
+    loop-again
+    seven-requires
+    same-length-4
+    returns-4)

@@ -1,0 +1,172 @@
+-- `aspif::lines::lines` meets its contract: with each turn what is left to read gives the whole answer, and the tape has the words
+-- of the lines so far (Turns). Assumes nothing.
+use Prim.Native.Nat.{_≤_}
+use mathlib.Core.Path.{_≡_, refl, _∙_}
+use native.Mathlib.Omega.{arith}
+use borrow.Author.Needs.{needs}
+use lib.ListN.{length}
+use Rattle.fields.proofs.Ahead.{natural-ahead}
+use Rattle.fields.proofs.Naturals.{ten-far}
+use Rattle.fields.proofs.Taping.{wrote, stopped}
+use Rattle.aspif.specs.Grammar.{lines}
+use Rattle.aspif.specs.Words.{words}
+use Rattle.aspif.specs.Values.{taped}
+use Rattle.aspif.proofs.Turns.{turn-none, turn-stop, last-stop, last-goes, line-stop, line-goes, Reached, reach-start, reach-fault, reach-more, end-taped, end-lines, end-walks}
+use Rattle.aspif.proofs.lines.lines.Statement.{statement}
+use Rattle.aspif.proofs.lines.lines.Tie as tie
+
+abbrev Inv-loop : tie.InvT-loop
+Inv-loop s n tape₀ d₀ o₀ left₀ tape d o left =
+    Reached s n tape₀ (d₀ .at) tape (d .at) o left × (length tape ≡ length tape₀)
+
+abbrev μ-loop : tie.MeasureT-loop
+μ-loop s n tape₀ d₀ o₀ left₀ tape d o left = left
+
+loop-holds : tie.Need-loop-holds Inv-loop μ-loop
+loop-holds c = (reach-start _ _ _ _, refl)
+
+natural-requires : tie.Need-natural-requires Inv-loop μ-loop
+natural-requires c κs = search needs
+
+enum-known-a : tie.Need-enum-known-a Inv-loop μ-loop
+enum-known-a c = search needs
+
+enum-told : tie.Need-enum-told Inv-loop μ-loop
+enum-told c = search needs
+
+refusal-requires : tie.Need-refusal-requires Inv-loop μ-loop
+refusal-requires c κs = search needs
+
+same-length : tie.Need-same-length Inv-loop μ-loop
+same-length c = c .before .before .before .before .before .loop .inv .1
+
+returns : tie.Need-returns Inv-loop μ-loop
+unfolding taped
+returns c =
+    let e = rw (c .before .enum-told .given .1) at (c .before .before .before .natural .ensures) in
+    let f = reach-fault _ _ _ _ _ _ _ _ (c .before .before .before .before .before .loop .inv .0) _ _ (turn-stop _ _ _ _ _ (c .before .before .before .before .loop-test .taken) e) in
+    (rw (c .refusal .ensures, c .before .enum-told .given .1, f), (rw (c .refusal .ensures, c .before .enum-told .given .1, f), tt))
+
+last-line-requires : tie.Need-last-line-requires Inv-loop μ-loop
+last-line-requires c κs = search needs
+
+enum-told-2 : tie.Need-enum-told-2 Inv-loop μ-loop
+enum-told-2 c = search needs
+
+enum-told-3 : tie.Need-enum-told-3 Inv-loop μ-loop
+enum-told-3 c = search needs
+
+refusal-requires-2 : tie.Need-refusal-requires-2 Inv-loop μ-loop
+refusal-requires-2 c κs = search needs
+
+same-length-2 : tie.Need-same-length-2 Inv-loop μ-loop
+same-length-2 c = c .before .before .before .before .before .before .before .before .before .before .loop .inv .1
+
+returns-2 : tie.Need-returns-2 Inv-loop μ-loop
+unfolding taped
+returns-2 c =
+    let e = rw (c .before .before .before .before .before .before .a .given .1) at (c .before .before .before .before .before .before .before .before .natural .ensures) in
+    let g = rw (c .before .enum-told3 .given .1) at (c .before .before .before .last-line .ensures) in
+    let f = reach-fault _ _ _ _ _ _ _ _ (c .before .before .before .before .before .before .before .before .before .before .loop .inv .0) _ _ (last-stop _ _ _ _ _ _ _ (c .before .before .before .before .before .before .before .before .before .loop-test .taken) e (c .before .before .before .before .if1 .taken) g) in
+    (rw (c .refusal2 .ensures, c .before .enum-told3 .given .1, f), (rw (c .refusal2 .ensures, c .before .enum-told3 .given .1, f), tt))
+
+sub-count : tie.Need-sub-count Inv-loop μ-loop
+sub-count c = omega (arith, c .before .before .before .before .before .before .before .before .before .loop .inv .0 .count)
+
+same-length-3 : tie.Need-same-length-3 Inv-loop μ-loop
+same-length-3 c = c .before .before .before .before .before .before .before .before .before .loop .inv .1
+
+returns-3 : tie.Need-returns-3 Inv-loop μ-loop
+returns-3 c =
+    let p = c .before .before .before .before .before .before .before .before .before .before .before .before .pre in
+    let e = rw (c .before .before .before .before .before .a .given .1) at (c .before .before .before .before .before .before .before .natural .ensures) in
+    let h = natural-ahead _ _ _ _ .ends _ _ e in
+    let g = rw (c .enum-told2 .given .1) at (c .before .before .last-line .ensures) in
+    let l = last-goes _ _ _ _ _ _ (c .before .before .before .before .before .before .before .before .loop-test .taken) e (c .before .before .before .if1 .taken) g in
+    let i = c .before .before .before .before .before .before .before .before .before .loop .inv .0 in
+    let b : c .before .before .before .before .before .before .before .before .before .loop .o ≤ length (c .before .before .before .before .before .before .before .before .before .before .before .before .args .tape .now) = omega (arith, i .room) in
+    (end-taped _ _ _ _ _ _ _ _ i _ l b, (end-lines _ _ _ _ _ _ _ _ i _ l b, end-walks _ _ _ _ _ _ _ _ i _ l b (c .before .before .before .before .before .before .before .before .before .before .before .before .pre .1)))
+
+statement-of-requires : tie.Need-statement-of-requires Inv-loop μ-loop
+statement-of-requires c κs =
+    let p = c .before .before .before .before .before .before .before .before .before .before .pre in
+    let e = rw (c .before .before .before .a .given .1) at (c .before .before .before .before .before .natural .ensures) in
+    let h = natural-ahead _ _ _ _ .ends _ _ e in
+    ((c .before .before .before .before .before .before .before .loop .inv .0 .room, h .0, rw (c .before .before .before .before .before .before .before .loop .inv .1) (c .before .before .before .before .before .before .before .before .before .before .pre .0), c .before .before .before .before .before .before .before .before .before .before .pre .1, omega arith), ten-far _ _ _ _ _ _ e)
+
+enum-known-w : tie.Need-enum-known-w Inv-loop μ-loop
+enum-known-w c = search needs
+
+enum-told-4 : tie.Need-enum-told-4 Inv-loop μ-loop
+enum-told-4 c = search needs
+
+refusal-requires-3 : tie.Need-refusal-requires-3 Inv-loop μ-loop
+refusal-requires-3 c κs = search needs
+
+same-length-4 : tie.Need-same-length-4 Inv-loop μ-loop
+same-length-4 c = c .before .before .before .before .before .statement-of .kept .1 .1 .1 .1 .0 ∙ c .before .before .before .before .before .before .before .before .before .before .before .before .before .loop .inv .1
+
+returns-4 : tie.Need-returns-4 Inv-loop μ-loop
+unfolding taped
+returns-4 c =
+    let e = rw (c .before .before .before .before .before .before .before .before .before .a .given .1) at (c .before .before .before .before .before .before .before .before .before .before .before .natural .ensures) in
+    let g = stopped words _ _ _ (rw (c .before .enum-told4 .given .1) at (c .before .before .before .before .before .statement-of .ensures .0)) in
+    let f = reach-fault _ _ _ _ _ _ _ _ (c .before .before .before .before .before .before .before .before .before .before .before .before .before .loop .inv .0) _ _ (line-stop _ _ _ _ _ _ _ (c .before .before .before .before .before .before .before .before .before .before .before .before .loop-test .taken) e (c .before .before .before .before .before .before .before .if1 .left) g) in
+    (rw (c .refusal3 .ensures, c .before .enum-told4 .given .1, f), (rw (c .refusal3 .ensures, c .before .enum-told4 .given .1, f), tt))
+
+sub-left : tie.Need-sub-left Inv-loop μ-loop
+sub-left c = search needs
+
+loop-less : tie.Need-loop-less Inv-loop μ-loop
+loop-less c = search needs
+
+loop-again : tie.Need-loop-again Inv-loop μ-loop
+loop-again c =
+    let e = rw (c .before .before .before .before .before .before .before .before .before .a .given .1) at (c .before .before .before .before .before .before .before .before .before .before .before .natural .ensures) in
+    let g = wrote words _ _ _ (rw (c .before .w .given .1) at (c .before .before .before .before .before .statement-of .ensures .0)) in
+    let b = rw (c .before .w .given .1) at (c .before .before .before .before .before .statement-of .ensures .1) in
+    let l = line-goes _ _ _ _ _ _ _ (c .before .before .before .before .before .before .before .before .before .before .before .before .loop-test .taken) e (c .before .before .before .before .before .before .before .if1 .left) (g .is) in
+    (reach-more _ _ _ _ _ _ _ _ (c .before .before .before .before .before .before .before .before .before .before .before .before .before .loop .inv .0) _ _ _ _ _ l (g .tape) (g .next) b (omega arith), c .before .before .before .before .before .statement-of .kept .1 .1 .1 .1 .0 ∙ c .before .before .before .before .before .before .before .before .before .before .before .before .before .loop .inv .1)
+
+same-length-5 : tie.Need-same-length-5 Inv-loop μ-loop
+same-length-5 c = c .before .loop .inv .1
+
+returns-5 : tie.Need-returns-5 Inv-loop μ-loop
+unfolding taped
+returns-5 c =
+    let f = reach-fault _ _ _ _ _ _ _ _ (c .before .loop .inv .0) _ _ (turn-none _ _ _ (c .loop-test .left)) in
+    (rw f, (rw f, tt))
+
+pub lines-spec : {M : Type 1} → statement M
+lines-spec =
+    tie.close
+    (tie.spec
+    Inv-loop
+    μ-loop
+    loop-holds
+    natural-requires
+    enum-known-a
+    enum-told
+    refusal-requires
+    same-length
+    returns
+    last-line-requires
+    enum-told-2
+    enum-told-3
+    refusal-requires-2
+    same-length-2
+    returns-2
+    sub-count
+    same-length-3
+    returns-3
+    statement-of-requires
+    enum-known-w
+    enum-told-4
+    refusal-requires-3
+    same-length-4
+    returns-4
+    sub-left
+    loop-less
+    loop-again
+    same-length-5
+    returns-5)

@@ -1,0 +1,47 @@
+-- `aspif::read` meets its contract: the first line, then the lines. Assumes nothing.
+use borrow.Author.Needs.{needs}
+use Rattle.aspif.specs.Grammar.{plan, statements}
+use Rattle.aspif.specs.Values.{taped}
+use Rattle.aspif.proofs.read.Statement.{statement}
+use Rattle.aspif.proofs.read.Tie as tie
+
+first-line-requires : tie.Need-first-line-requires
+first-line-requires c κs = search needs
+
+enum-known-a : tie.Need-enum-known-a
+enum-known-a c = search needs
+
+enum-told : tie.Need-enum-told
+enum-told c = search needs
+
+refusal-requires : tie.Need-refusal-requires
+refusal-requires c κs = search needs
+
+returns : tie.Need-returns
+unfolding statements plan taped
+returns c =
+    (rw (c .refusal .ensures, ← (c .before .before .before .first-line .ensures), c .before .enum-told .given .1), (rw (c .refusal .ensures, ← (c .before .before .before .first-line .ensures), c .before .enum-told .given .1), tt))
+
+lines-requires : tie.Need-lines-requires
+lines-requires c κs = search needs
+
+same-length : tie.Need-same-length
+same-length c = search needs
+
+returns-2 : tie.Need-returns-2
+unfolding statements plan
+returns-2 c =
+    (rw (← (c .before .before .before .before .before .before .before .first-line .ensures), c .before .before .before .before .before .a .given .1) (c .before .before .lines .ensures .0), (rw (← (c .before .before .before .before .before .before .before .first-line .ensures), c .before .before .before .before .before .a .given .1) (c .before .before .lines .ensures .1 .0), c .before .before .lines .ensures .1 .1))
+
+pub read-spec : {M : Type 1} → statement M
+read-spec =
+    tie.close
+    (tie.spec
+    first-line-requires
+    enum-known-a
+    enum-told
+    refusal-requires
+    returns
+    lines-requires
+    same-length
+    returns-2)

@@ -1,0 +1,134 @@
+-- `aspif::rules::rule_line` meets its contract: the words so far grow with each field. Assumes nothing.
+use borrow.Author.Needs.{needs}
+use mathlib.Core.Path.{sym, _∙_}
+use mathlib.Core.List.{[], _∷_}
+use native.Mathlib.Omega.{arith}
+use Rattle.fields.specs.Tape.{listed}
+use Rattle.fields.proofs.Ahead.{nextNatural-far}
+use Rattle.fields.proofs.Taping.{wrote, stopped, on-fault, on-start, on-more, nextNatural-within}
+use Rattle.aspif.specs.Grammar.{ruleLine}
+use Rattle.aspif.proofs.Coding.{literals-forth, head-forth, heads-few}
+use Rattle.aspif.proofs.Ending.{line-ends}
+use Rattle.aspif.proofs.rules.rule_line.Statement.{statement}
+use Rattle.aspif.proofs.rules.rule_line.Tie as tie
+
+next-natural-requires : tie.Need-next-natural-requires
+next-natural-requires c κs = search needs
+
+enum-known-a : tie.Need-enum-known-a
+enum-known-a c = search needs
+
+enum-told : tie.Need-enum-told
+enum-told c = search needs
+
+refusal-requires : tie.Need-refusal-requires
+refusal-requires c κs = search needs
+
+returns : tie.Need-returns
+unfolding ruleLine
+returns c = (rw (c .refusal .ensures, ← (c .before .before .before .next-natural .ensures), c .before .enum-told .given .1) (on-fault _ _ _ _ _), tt)
+
+begin-with-requires : tie.Need-begin-with-requires
+begin-with-requires c κs =
+    let p = c .before .before .before .before .before .before .before .pre in
+    let ea = rw (c .before .before .a .given .1) at (c .before .before .before .before .next-natural .ensures) in
+    let fa = nextNatural-far _ _ _ _ .ends _ _ ea in
+    omega arith
+
+heads-requires : tie.Need-heads-requires
+heads-requires c κs =
+    let p = c .before .before .before .before .before .before .before .before .before .before .before .pre in
+    let ea = rw (c .before .before .before .before .before .before .a .given .1) at (c .before .before .before .before .before .before .before .before .next-natural .ensures) in
+    let fa = nextNatural-far _ _ _ _ .ends _ _ ea in
+    let nbeginwith = c .before .before .before .begin-with .ensures .1 in
+    (omega arith, rw (c .before .before .before .begin-with .kept .0) (omega arith))
+
+enum-known-h : tie.Need-enum-known-h
+enum-known-h c = search needs
+
+enum-told-2 : tie.Need-enum-told-2
+enum-told-2 c = search needs
+
+same-length : tie.Need-same-length
+same-length c = c .before .before .before .before .heads .kept .1 .1 .1 .0 ∙ c .before .before .before .before .before .before .before .before .begin-with .kept .0
+
+returns-2 : tie.Need-returns-2
+unfolding ruleLine
+returns-2 c =
+    let qh = stopped listed _ _ _ (rw (c .enum-told2 .given .1) at (c .before .before .before .before .heads .ensures .0)) in
+    (rw (c .enum-told2 .given .1, ← (c .before .before .before .before .before .before .before .before .before .before .before .before .before .next-natural .ensures), c .before .before .before .before .before .before .before .before .before .before .before .a .given .1, qh) (on-fault _ _ _ _ _), c .before .before .before .before .heads .ensures .1)
+
+body-requires : tie.Need-body-requires
+body-requires c κs =
+    let p = c .before .before .before .before .before .before .before .before .before .before .before .before .before .before .before .before .before .before .pre in
+    let ea = rw (c .before .before .before .before .before .before .before .before .before .before .before .before .before .a .given .1) at (c .before .before .before .before .before .before .before .before .before .before .before .before .before .before .before .next-natural .ensures) in
+    let fa = nextNatural-far _ _ _ _ .ends _ _ ea in
+    let nbeginwith = c .before .before .before .before .before .before .before .before .before .before .begin-with .ensures .1 in
+    let rh = rw (c .before .before .h .given .1) at (c .before .before .before .before .before .before .heads .ensures .1) in
+    (omega arith, rw (c .before .before .before .before .before .before .heads .kept .1 .1 .1 .0 ∙ c .before .before .before .before .before .before .before .before .before .before .begin-with .kept .0) (omega arith))
+
+enum-known-b : tie.Need-enum-known-b
+enum-known-b c = search needs
+
+enum-told-3 : tie.Need-enum-told-3
+enum-told-3 c = search needs
+
+same-length-2 : tie.Need-same-length-2
+same-length-2 c = c .before .before .before .before .body .kept .1 .1 .0 ∙ c .before .before .before .before .before .before .before .before .before .before .before .heads .kept .1 .1 .1 .0 ∙ c .before .before .before .before .before .before .before .before .before .before .before .before .before .before .before .begin-with .kept .0
+
+returns-3 : tie.Need-returns-3
+unfolding ruleLine
+returns-3 c =
+    let wh = wrote listed _ _ _ (rw (c .before .before .before .before .before .before .before .h .given .1) at (c .before .before .before .before .before .before .before .before .before .before .before .heads .ensures .0)) in
+    let qb = stopped listed _ _ _ (rw (c .enum-told3 .given .1) at (c .before .before .before .before .body .ensures .0)) in
+    (rw (c .enum-told3 .given .1, ← (c .before .before .before .before .before .before .before .before .before .before .before .before .before .before .before .before .before .before .before .before .next-natural .ensures), c .before .before .before .before .before .before .before .before .before .before .before .before .before .before .before .before .before .before .a .given .1, wh .is, qb) (on-fault _ _ _ _ _), c .before .before .before .before .body .ensures .1)
+
+end-line-requires : tie.Need-end-line-requires
+end-line-requires c κs =
+    let p = c .before .before .before .before .before .before .before .before .before .before .before .before .before .before .before .before .before .before .before .before .before .before .before .before .pre in
+    let ea = rw (c .before .before .before .before .before .before .before .before .before .before .before .before .before .before .before .before .before .before .before .a .given .1) at (c .before .before .before .before .before .before .before .before .before .before .before .before .before .before .before .before .before .before .before .before .before .next-natural .ensures) in
+    let fa = nextNatural-far _ _ _ _ .ends _ _ ea in
+    let nbeginwith = c .before .before .before .before .before .before .before .before .before .before .before .before .before .before .before .before .begin-with .ensures .1 in
+    let rh = rw (c .before .before .before .before .before .before .before .before .h .given .1) at (c .before .before .before .before .before .before .before .before .before .before .before .before .heads .ensures .1) in
+    let rb = rw (c .before .b .given .1) at (c .before .before .before .before .before .body .ensures .1) in
+    omega arith
+
+same-length-3 : tie.Need-same-length-3
+same-length-3 c = c .before .before .before .before .before .before .body .kept .1 .1 .0 ∙ c .before .before .before .before .before .before .before .before .before .before .before .before .before .heads .kept .1 .1 .1 .0 ∙ c .before .before .before .before .before .before .before .before .before .before .before .before .before .before .before .before .before .begin-with .kept .0
+
+returns-4 : tie.Need-returns-4
+unfolding ruleLine
+returns-4 c =
+    let wh = wrote listed _ _ _ (rw (c .before .before .before .before .before .before .before .before .before .h .given .1) at (c .before .before .before .before .before .before .before .before .before .before .before .before .before .heads .ensures .0)) in
+    let wb = wrote listed _ _ _ (rw (c .before .before .b .given .1) at (c .before .before .before .before .before .before .body .ensures .0)) in
+    let ea = rw (c .before .before .before .before .before .before .before .before .before .before .before .before .before .before .before .before .before .before .before .before .a .given .1) at (c .before .before .before .before .before .before .before .before .before .before .before .before .before .before .before .before .before .before .before .before .before .before .next-natural .ensures) in
+    let hw = head-forth _ (wh .value) (nextNatural-within _ _ _ _ _ _ ea) (heads-few _ _ _ _ _ (sym (wh .is))) in (
+      rw (← (c .before .before .before .before .before .before .before .before .before .before .before .before .before .before .before .before .before .before .before .before .before .before .next-natural .ensures), c .before .before .before .before .before .before .before .before .before .before .before .before .before .before .before .before .before .before .before .before .a .given .1, wh .is, wb .is) (c .end-line .ensures .0 _ ∙ line-ends _ _ _ _ _ _ _
+          (on-more _ _ _ (listed (wb .value)) (on-more _ _ _ (listed (wh .value)) (on-more _ _ _ (_ ∷ _ ∷ _ ∷ []) (on-start _ _) (c .before .before .before .before .before .before .before .before .before .before .before .before .before .before .before .before .before .begin-with .ensures .0) (c .before .before .before .before .before .before .before .before .before .before .before .before .before .before .before .before .before .begin-with .ensures .1)) (wh .tape) (wh .next)) (wb .tape) (wb .next))
+          (rw (hw, literals-forth))),
+      c .end-line .ensures .1,
+    )
+
+pub rule-line-spec : {M : Type 1} → statement M
+rule-line-spec =
+    tie.close
+    (tie.spec
+    next-natural-requires
+    enum-known-a
+    enum-told
+    refusal-requires
+    returns
+    begin-with-requires
+    heads-requires
+    enum-known-h
+    enum-told-2
+    same-length
+    returns-2
+    body-requires
+    enum-known-b
+    enum-told-3
+    same-length-2
+    returns-3
+    end-line-requires
+    same-length-3
+    returns-4)

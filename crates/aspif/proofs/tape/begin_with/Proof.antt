@@ -1,0 +1,26 @@
+-- `aspif::tape::begin_with` meets its contract. Assumes nothing.
+use borrow.Author.Needs.{needs}
+use mathlib.Core.Path.{_∙_}
+use mathlib.Core.List.{[], _∷_}
+use native.Mathlib.Omega.{arith}
+use Rattle.fields.proofs.Taping.{sets-append}
+use Rattle.aspif.proofs.tape.begin_with.Statement.{statement}
+use Rattle.aspif.proofs.tape.begin_with.Tie as tie
+
+begin-requires : tie.Need-begin-requires
+begin-requires c κs = search needs
+
+put-requires : tie.Need-put-requires
+put-requires c κs =
+    let n = c .before .before .before .begin .ensures .1 in
+    rw (c .before .before .before .begin .kept .0) (omega arith)
+
+same-length : tie.Need-same-length
+same-length c = c .before .before .put .kept .0 ∙ c .before .before .before .before .before .before .begin .kept .0
+
+returns : tie.Need-returns
+returns c =
+    (rw (c .before .before .put .ensures .0, c .before .before .before .before .before .before .begin .ensures .0, c .before .before .before .before .before .before .begin .ensures .1) (sets-append (c .before .before .before .before .before .before .before .before .before .args .tape .now) (c .before .before .before .before .before .before .before .before .before .args .out) (_ ∷ _ ∷ []) (_ ∷ [])), omega (arith, c .before .before .before .before .before .before .begin .ensures .1, c .before .before .put .ensures .1))
+
+pub begin-with-spec : {M : Type 1} → statement M
+begin-with-spec = tie.close (tie.spec begin-requires put-requires same-length returns)

@@ -1,0 +1,132 @@
+-- `aspif::theory::element_line` meets its contract: the words so far grow with each field. Assumes nothing.
+use borrow.Author.Needs.{needs}
+use mathlib.Core.Path.{_∙_}
+use mathlib.Core.List.{[], _∷_}
+use native.Mathlib.Omega.{arith}
+use Rattle.fields.specs.Tape.{listed}
+use Rattle.fields.proofs.Ahead.{nextElement-far}
+use Rattle.fields.proofs.Taping.{wrote, stopped, on-fault, on-start, on-more}
+use Rattle.aspif.specs.Grammar.{elementLine}
+use Rattle.aspif.proofs.Coding.{literals-forth}
+use Rattle.aspif.proofs.Ending.{line-ends}
+use Rattle.aspif.proofs.theory.element_line.Statement.{statement}
+use Rattle.aspif.proofs.theory.element_line.Tie as tie
+
+next-element-requires : tie.Need-next-element-requires
+next-element-requires c κs = search needs
+
+enum-known-a : tie.Need-enum-known-a
+enum-known-a c = search needs
+
+enum-told : tie.Need-enum-told
+enum-told c = search needs
+
+refusal-requires : tie.Need-refusal-requires
+refusal-requires c κs = search needs
+
+returns : tie.Need-returns
+unfolding elementLine
+returns c = (rw (c .refusal .ensures, ← (c .before .before .before .next-element .ensures), c .before .enum-told .given .1) (on-fault _ _ _ _ _), tt)
+
+begin-with-requires : tie.Need-begin-with-requires
+begin-with-requires c κs =
+    let p = c .before .before .before .before .before .before .before .pre in
+    let ea = rw (c .before .before .a .given .1) at (c .before .before .before .before .next-element .ensures) in
+    let fa = nextElement-far _ _ .ends _ _ ea in
+    omega arith
+
+counted-requires : tie.Need-counted-requires
+counted-requires c κs =
+    let p = c .before .before .before .before .before .before .before .before .before .before .before .pre in
+    let ea = rw (c .before .before .before .before .before .before .a .given .1) at (c .before .before .before .before .before .before .before .before .next-element .ensures) in
+    let fa = nextElement-far _ _ .ends _ _ ea in
+    let nbeginwith = c .before .before .before .begin-with .ensures .1 in
+    (omega arith, omega arith, rw (c .before .before .before .begin-with .kept .0) (omega arith))
+
+enum-known-t : tie.Need-enum-known-t
+enum-known-t c = search needs
+
+enum-told-2 : tie.Need-enum-told-2
+enum-told-2 c = search needs
+
+same-length : tie.Need-same-length
+same-length c = c .before .before .before .before .counted .kept .1 .1 .1 .1 .1 .0 ∙ c .before .before .before .before .before .before .before .before .begin-with .kept .0
+
+returns-2 : tie.Need-returns-2
+unfolding elementLine
+returns-2 c =
+    let qt = stopped listed _ _ _ (rw (c .enum-told2 .given .1) at (c .before .before .before .before .counted .ensures .0)) in
+    (rw (c .enum-told2 .given .1, ← (c .before .before .before .before .before .before .before .before .before .before .before .before .before .next-element .ensures), c .before .before .before .before .before .before .before .before .before .before .before .a .given .1, qt) (on-fault _ _ _ _ _), c .before .before .before .before .counted .ensures .1)
+
+literals-requires : tie.Need-literals-requires
+literals-requires c κs =
+    let p = c .before .before .before .before .before .before .before .before .before .before .before .before .before .before .before .before .before .before .pre in
+    let ea = rw (c .before .before .before .before .before .before .before .before .before .before .before .before .before .a .given .1) at (c .before .before .before .before .before .before .before .before .before .before .before .before .before .before .before .next-element .ensures) in
+    let fa = nextElement-far _ _ .ends _ _ ea in
+    let nbeginwith = c .before .before .before .before .before .before .before .before .before .before .begin-with .ensures .1 in
+    let rt = rw (c .before .before .t .given .1) at (c .before .before .before .before .before .before .counted .ensures .1) in
+    (omega arith, rw (c .before .before .before .before .before .before .counted .kept .1 .1 .1 .1 .1 .0 ∙ c .before .before .before .before .before .before .before .before .before .before .begin-with .kept .0) (omega arith))
+
+enum-known-b : tie.Need-enum-known-b
+enum-known-b c = search needs
+
+enum-told-3 : tie.Need-enum-told-3
+enum-told-3 c = search needs
+
+same-length-2 : tie.Need-same-length-2
+same-length-2 c = c .before .before .before .before .literals .kept .1 .1 .0 ∙ c .before .before .before .before .before .before .before .before .before .before .before .counted .kept .1 .1 .1 .1 .1 .0 ∙ c .before .before .before .before .before .before .before .before .before .before .before .before .before .before .before .begin-with .kept .0
+
+returns-3 : tie.Need-returns-3
+unfolding elementLine
+returns-3 c =
+    let wt = wrote listed _ _ _ (rw (c .before .before .before .before .before .before .before .t .given .1) at (c .before .before .before .before .before .before .before .before .before .before .before .counted .ensures .0)) in
+    let qb = stopped listed _ _ _ (rw (c .enum-told3 .given .1) at (c .before .before .before .before .literals .ensures .0)) in
+    (rw (c .enum-told3 .given .1, ← (c .before .before .before .before .before .before .before .before .before .before .before .before .before .before .before .before .before .before .before .before .next-element .ensures), c .before .before .before .before .before .before .before .before .before .before .before .before .before .before .before .before .before .before .a .given .1, wt .is, qb) (on-fault _ _ _ _ _), c .before .before .before .before .literals .ensures .1)
+
+end-line-requires : tie.Need-end-line-requires
+end-line-requires c κs =
+    let p = c .before .before .before .before .before .before .before .before .before .before .before .before .before .before .before .before .before .before .before .before .before .before .before .before .pre in
+    let ea = rw (c .before .before .before .before .before .before .before .before .before .before .before .before .before .before .before .before .before .before .before .a .given .1) at (c .before .before .before .before .before .before .before .before .before .before .before .before .before .before .before .before .before .before .before .before .before .next-element .ensures) in
+    let fa = nextElement-far _ _ .ends _ _ ea in
+    let nbeginwith = c .before .before .before .before .before .before .before .before .before .before .before .before .before .before .before .before .begin-with .ensures .1 in
+    let rt = rw (c .before .before .before .before .before .before .before .before .t .given .1) at (c .before .before .before .before .before .before .before .before .before .before .before .before .counted .ensures .1) in
+    let rb = rw (c .before .b .given .1) at (c .before .before .before .before .before .literals .ensures .1) in
+    omega arith
+
+same-length-3 : tie.Need-same-length-3
+same-length-3 c = c .before .before .before .before .before .before .literals .kept .1 .1 .0 ∙ c .before .before .before .before .before .before .before .before .before .before .before .before .before .counted .kept .1 .1 .1 .1 .1 .0 ∙ c .before .before .before .before .before .before .before .before .before .before .before .before .before .before .before .before .before .begin-with .kept .0
+
+returns-4 : tie.Need-returns-4
+unfolding elementLine
+returns-4 c =
+    let wt = wrote listed _ _ _ (rw (c .before .before .before .before .before .before .before .before .before .t .given .1) at (c .before .before .before .before .before .before .before .before .before .before .before .before .before .counted .ensures .0)) in
+    let wb = wrote listed _ _ _ (rw (c .before .before .b .given .1) at (c .before .before .before .before .before .before .literals .ensures .0)) in (
+      rw (← (c .before .before .before .before .before .before .before .before .before .before .before .before .before .before .before .before .before .before .before .before .before .before .next-element .ensures), c .before .before .before .before .before .before .before .before .before .before .before .before .before .before .before .before .before .before .before .before .a .given .1, wt .is, wb .is) (c .end-line .ensures .0 _ ∙ line-ends _ _ _ _ _ _ _
+          (on-more _ _ _ (listed (wb .value)) (on-more _ _ _ (listed (wt .value)) (on-more _ _ _ (_ ∷ _ ∷ _ ∷ []) (on-start _ _) (c .before .before .before .before .before .before .before .before .before .before .before .before .before .before .before .before .before .begin-with .ensures .0) (c .before .before .before .before .before .before .before .before .before .before .before .before .before .before .before .before .before .begin-with .ensures .1)) (wt .tape) (wt .next)) (wb .tape) (wb .next))
+          (rw literals-forth)),
+      c .end-line .ensures .1,
+    )
+
+pub element-line-spec : {M : Type 1} → statement M
+element-line-spec =
+    tie.close
+    (tie.spec
+    next-element-requires
+    enum-known-a
+    enum-told
+    refusal-requires
+    returns
+    begin-with-requires
+    counted-requires
+    enum-known-t
+    enum-told-2
+    same-length
+    returns-2
+    literals-requires
+    enum-known-b
+    enum-told-3
+    same-length-2
+    returns-3
+    end-line-requires
+    same-length-3
+    returns-4)

@@ -1,0 +1,147 @@
+-- `aspif::theory::guarded_line` meets its contract: the words so far grow with each field. Assumes nothing.
+use borrow.Author.Needs.{needs}
+use mathlib.Core.Path.{_∙_}
+use mathlib.Core.List.{[], _∷_, append-assoc}
+use native.Mathlib.Omega.{arith}
+use Rattle.fields.proofs.Ahead.{nextTerm-far}
+use Rattle.fields.proofs.Taping.{wrote, stopped, on-fault, on-start, on-more}
+use Rattle.aspif.specs.Grammar.{guardedLine}
+use Rattle.aspif.proofs.Ending.{line-ends}
+use Rattle.aspif.specs.Words.{frontWords}
+use Rattle.aspif.proofs.theory.guarded_line.Statement.{statement}
+use Rattle.aspif.proofs.theory.guarded_line.Tie as tie
+
+front-requires : tie.Need-front-requires
+front-requires c κs =
+    let p = c .before .before .before .pre in
+    (omega arith, omega arith)
+
+enum-known-t : tie.Need-enum-known-t
+enum-known-t c = search needs
+
+enum-told : tie.Need-enum-told
+enum-told c = search needs
+
+same-length : tie.Need-same-length
+same-length c = c .before .before .before .before .front .kept .1 .1 .1 .1 .0
+
+returns : tie.Need-returns
+unfolding guardedLine
+returns c =
+    let qt = stopped (frontWords 96 (c .before .before .before .before .before .before .before .before .args .place)) _ _ _ (rw (c .enum-told .given .1) at (c .before .before .before .before .front .ensures .0)) in
+    (rw (c .enum-told .given .1, qt) (on-fault _ _ _ _ _), c .before .before .before .before .front .ensures .1)
+
+next-term-requires : tie.Need-next-term-requires
+next-term-requires c κs = search needs
+
+enum-known-a : tie.Need-enum-known-a
+enum-known-a c = search needs
+
+enum-told-2 : tie.Need-enum-told-2
+enum-told-2 c = search needs
+
+refusal-requires : tie.Need-refusal-requires
+refusal-requires c κs = search needs
+
+same-length-2 : tie.Need-same-length-2
+same-length-2 c = c .before .before .before .before .before .before .before .before .before .front .kept .1 .1 .1 .1 .0
+
+returns-2 : tie.Need-returns-2
+unfolding guardedLine
+returns-2 c =
+    let wt = wrote (frontWords 96 (c .before .before .before .before .before .before .before .before .before .before .before .before .before .args .place)) _ _ _ (rw (c .before .before .before .before .before .t .given .1) at (c .before .before .before .before .before .before .before .before .before .front .ensures .0)) in
+    (rw (c .refusal .ensures, wt .is, ← (c .before .before .before .next-term .ensures), c .before .enum-told2 .given .1) (on-fault _ _ _ _ _), tt)
+
+next-term-requires-2 : tie.Need-next-term-requires-2
+next-term-requires-2 c κs = search needs
+
+enum-known-b : tie.Need-enum-known-b
+enum-known-b c = search needs
+
+enum-told-3 : tie.Need-enum-told-3
+enum-told-3 c = search needs
+
+refusal-requires-2 : tie.Need-refusal-requires-2
+refusal-requires-2 c κs = search needs
+
+same-length-3 : tie.Need-same-length-3
+same-length-3 c = c .before .before .before .before .before .before .before .before .before .before .before .before .before .front .kept .1 .1 .1 .1 .0
+
+returns-3 : tie.Need-returns-3
+unfolding guardedLine
+returns-3 c =
+    let wt = wrote (frontWords 96 (c .before .before .before .before .before .before .before .before .before .before .before .before .before .before .before .before .before .args .place)) _ _ _ (rw (c .before .before .before .before .before .before .before .before .before .t .given .1) at (c .before .before .before .before .before .before .before .before .before .before .before .before .before .front .ensures .0)) in
+    (rw (c .refusal2 .ensures, wt .is, ← (c .before .before .before .before .before .before .before .next-term .ensures), c .before .before .before .before .before .a .given .1, ← (c .before .before .before .next-term2 .ensures), c .before .enum-told3 .given .1) (on-fault _ _ _ _ _), tt)
+
+put-requires : tie.Need-put-requires
+put-requires c κs =
+    let p = c .before .before .before .before .before .before .before .before .before .before .before .before .before .before .before .before .before .before .pre in
+    let rt = rw (c .before .before .before .before .before .before .before .before .before .before .t .given .1) at (c .before .before .before .before .before .before .before .before .before .before .before .before .before .before .front .ensures .1) in
+    let ea = rw (c .before .before .before .before .before .before .a .given .1) at (c .before .before .before .before .before .before .before .before .next-term .ensures) in
+    let fa = nextTerm-far _ _ .ends _ _ ea in
+    let eb = rw (c .before .before .b .given .1) at (c .before .before .before .before .next-term2 .ensures) in
+    let fb = nextTerm-far _ _ .ends _ _ eb in
+    rw (c .before .before .before .before .before .before .before .before .before .before .before .before .before .before .front .kept .1 .1 .1 .1 .0) (omega arith)
+
+put-requires-2 : tie.Need-put-requires-2
+put-requires-2 c κs =
+    let p = c .before .before .before .before .before .before .before .before .before .before .before .before .before .before .before .before .before .before .before .before .before .before .pre in
+    let rt = rw (c .before .before .before .before .before .before .before .before .before .before .before .before .before .before .t .given .1) at (c .before .before .before .before .before .before .before .before .before .before .before .before .before .before .before .before .before .before .front .ensures .1) in
+    let ea = rw (c .before .before .before .before .before .before .before .before .before .before .a .given .1) at (c .before .before .before .before .before .before .before .before .before .before .before .before .next-term .ensures) in
+    let fa = nextTerm-far _ _ .ends _ _ ea in
+    let eb = rw (c .before .before .before .before .before .before .b .given .1) at (c .before .before .before .before .before .before .before .before .next-term2 .ensures) in
+    let fb = nextTerm-far _ _ .ends _ _ eb in
+    let nput = c .before .before .before .put .ensures .1 in
+    rw (c .before .before .before .put .kept .0 ∙ c .before .before .before .before .before .before .before .before .before .before .before .before .before .before .before .before .before .before .front .kept .1 .1 .1 .1 .0) (omega arith)
+
+end-line-requires : tie.Need-end-line-requires
+end-line-requires c κs =
+    let p = c .before .before .before .before .before .before .before .before .before .before .before .before .before .before .before .before .before .before .before .before .before .before .before .before .before .pre in
+    let rt = rw (c .before .before .before .before .before .before .before .before .before .before .before .before .before .before .before .before .before .t .given .1) at (c .before .before .before .before .before .before .before .before .before .before .before .before .before .before .before .before .before .before .before .before .before .front .ensures .1) in
+    let ea = rw (c .before .before .before .before .before .before .before .before .before .before .before .before .before .a .given .1) at (c .before .before .before .before .before .before .before .before .before .before .before .before .before .before .before .next-term .ensures) in
+    let fa = nextTerm-far _ _ .ends _ _ ea in
+    let eb = rw (c .before .before .before .before .before .before .before .before .before .b .given .1) at (c .before .before .before .before .before .before .before .before .before .before .before .next-term2 .ensures) in
+    let fb = nextTerm-far _ _ .ends _ _ eb in
+    let nput = c .before .before .before .before .before .before .put .ensures .1 in
+    let nput2 = c .before .before .put2 .ensures .1 in
+    omega arith
+
+same-length-4 : tie.Need-same-length-4
+same-length-4 c = c .before .before .before .put2 .kept .0 ∙ c .before .before .before .before .before .before .before .put .kept .0 ∙ c .before .before .before .before .before .before .before .before .before .before .before .before .before .before .before .before .before .before .before .before .before .before .front .kept .1 .1 .1 .1 .0
+
+returns-4 : tie.Need-returns-4
+unfolding guardedLine
+returns-4 c =
+    let wt = wrote (frontWords 96 (c .before .before .before .before .before .before .before .before .before .before .before .before .before .before .before .before .before .before .before .before .before .before .before .before .before .before .args .place)) _ _ _ (rw (c .before .before .before .before .before .before .before .before .before .before .before .before .before .before .before .before .before .before .t .given .1) at (c .before .before .before .before .before .before .before .before .before .before .before .before .before .before .before .before .before .before .before .before .before .before .front .ensures .0)) in (
+      rw (wt .is, ← (c .before .before .before .before .before .before .before .before .before .before .before .before .before .before .before .before .next-term .ensures), c .before .before .before .before .before .before .before .before .before .before .before .before .before .before .a .given .1, ← (c .before .before .before .before .before .before .before .before .before .before .before .before .next-term2 .ensures), c .before .before .before .before .before .before .before .before .before .before .b .given .1) (c .end-line .ensures .0 _ ∙ line-ends _ _ _ _ _ _ _
+          (on-more _ _ _ (_ ∷ []) (on-more _ _ _ (_ ∷ []) (on-more _ _ _ (frontWords 96 (c .before .before .before .before .before .before .before .before .before .before .before .before .before .before .before .before .before .before .before .before .before .before .before .before .before .before .args .place) (wt .value)) (on-start _ _) (wt .tape) (wt .next)) (c .before .before .before .before .before .before .before .put .ensures .0) (c .before .before .before .before .before .before .before .put .ensures .1)) (c .before .before .before .put2 .ensures .0) (c .before .before .before .put2 .ensures .1))
+          (rw append-assoc)),
+      c .end-line .ensures .1,
+    )
+
+pub guarded-line-spec : {M : Type 1} → statement M
+guarded-line-spec =
+    tie.close
+    (tie.spec
+    front-requires
+    enum-known-t
+    enum-told
+    same-length
+    returns
+    next-term-requires
+    enum-known-a
+    enum-told-2
+    refusal-requires
+    same-length-2
+    returns-2
+    next-term-requires-2
+    enum-known-b
+    enum-told-3
+    refusal-requires-2
+    same-length-3
+    returns-3
+    put-requires
+    put-requires-2
+    end-line-requires
+    same-length-4
+    returns-4)

@@ -1,0 +1,198 @@
+-- The grammar of a plan, one definition a sentence of document 01, 'Reading the text'. It can be run.
+-- A reader is given the place of the line's first byte where that is the place of a refusal or of what the line says. Assumes nothing.
+use Prim.Native.Nat.{ℕ, zero, suc, _+_, _*_, _/_, _%_}
+use mathlib.Core.List.{List, [], _∷_, map}
+use lib.ListN.{length}
+use lib.Dec.{eqb, ltb}
+use lib.IntN.{ℤ, pos, negℤ}
+use Rattle.faults.specs.Answer.{Answer, got, refused, pick}
+use Rattle.fields.specs.declared.Item.the-variants as of
+use Rattle.fields.specs.Reading.{Reading, found, fault, Reader, bind, _>>=_, _>>_, pure}
+use Rattle.fields.specs.Fields.{byteAt, byte, bytes, natural, nextNatural, nextInteger, nextAtom, nextTerm, nextElement, counted, string, rest}
+use Rattle.aspif.specs.Statements.{Literal, positive, negated, Head, empty, single, choice, Statement, rule, output, numeric, string as stringTerm, compound, element, theory, guarded, comment, Line}
+
+-- ---- a literal and an integer are read as one number: 2 v, and 2 v + 1 after a minus
+
+abbrev pub literalOf : ℕ → Literal
+literalOf w = pick (eqb (w % 2) 0) (positive (w / 2)) (negated (w / 2))
+
+abbrev pub integerOf : ℕ → ℤ
+integerOf w = pick (eqb (w % 2) 0) (pos (w / 2)) (negℤ (pos (w / 2)))
+
+-- ---- statements
+
+-- every line is ended by byte 10
+unfoldable pub lineOf : (place : ℕ) → Statement → Reader Line
+lineOf place x = do
+  byte 10
+  pure (record { place = place; says = x })
+
+-- a plain head holds no atom or one
+abbrev pub plainHead : List ℕ → Head
+plainHead [] = empty
+plainHead (a ∷ rest) = single a
+
+abbrev pub headOf : (kind : ℕ) → List ℕ → Head
+headOf kind hs = pick (eqb kind 0) (plainHead hs) (choice hs)
+
+-- the atoms of a head: in a plain one, a count of 2 or more is not carried
+unfoldable pub heads : (kind : ℕ) → Reader (List ℕ)
+heads kind = counted of.Atom (pick (eqb kind 0) 4 5) (pick (eqb kind 0) 1 4096)
+
+-- a normal body; a weight body, kind 1, is not carried
+unfoldable pub bodyKind : Reader Unit
+bodyKind s at = bind (nextNatural 3 1 s at) (λ k n. pick (eqb k 0) (found tt n) (fault 4 (at + 1)))
+
+unfoldable pub literals : Reader (List ℕ)
+literals = counted of.Literal 5 4096
+
+-- `0`, a count, that many literals
+unfoldable pub body : Reader (List ℕ)
+body = do
+  bodyKind
+  literals
+
+-- the rest of `1`, head, body
+unfoldable pub ruleLine : (place : ℕ) → Reader Line
+ruleLine place = do
+  kind ← nextNatural 3 1
+  hs ← heads kind
+  ls ← body
+  lineOf place (rule (headOf kind hs) (map literalOf ls))
+
+-- the rest of `4`, length, string, count, literals
+unfoldable pub outputLine : (place : ℕ) → Reader Line
+outputLine place = do
+  bs ← string
+  ls ← literals
+  lineOf place (output bs (map literalOf ls))
+
+-- the rest of `9 0 u w`
+unfoldable pub numericLine : (place : ℕ) → Reader Line
+numericLine place = do
+  u ← nextTerm
+  w ← nextInteger 1000000 1000000
+  lineOf place (numeric u (integerOf w))
+
+-- the rest of `9 1 u n s`
+unfoldable pub stringLine : (place : ℕ) → Reader Line
+stringLine place = do
+  u ← nextTerm
+  bs ← string
+  lineOf place (stringTerm u bs)
+
+-- the rest of `9 2 u t n u1..un`: t is -1, -2, -3 or a term number
+unfoldable pub compoundLine : (place : ℕ) → Reader Line
+compoundLine place = do
+  u ← nextTerm
+  t ← nextInteger 3 1023
+  us ← counted of.Term 5 4096
+  lineOf place (compound u (integerOf t) us)
+
+-- the rest of `9 4 v n u1..un m l1..lm`
+unfoldable pub elementLine : (place : ℕ) → Reader Line
+elementLine place = do
+  v ← nextElement
+  us ← counted of.Term 5 4096
+  ls ← literals
+  lineOf place (element v us (map literalOf ls))
+
+-- `a p n v1..vn` of a theory atom: atom 0, a directive, is not carried
+pub record Front : Type 0 where
+  pub atom : ℕ
+  pub name : ℕ
+  pub elements : List ℕ
+
+unfoldable pub front : Reader Front
+front = do
+  a ← nextAtom 4
+  p ← nextTerm
+  vs ← counted of.Element 5 4096
+  pure (record { atom = a; name = p; elements = vs })
+
+-- the rest of `9 5 a p n v1..vn`
+unfoldable pub theoryLine : (place : ℕ) → Reader Line
+theoryLine place = do
+  f ← front
+  lineOf place (theory (f .atom) (f .name) (f .elements))
+
+-- the rest of `9 6 a p n v1..vn g u`
+unfoldable pub guardedLine : (place : ℕ) → Reader Line
+guardedLine place = do
+  f ← front
+  g ← nextTerm
+  u ← nextTerm
+  lineOf place (guarded (f .atom) (f .name) (f .elements) g u)
+
+-- the rest of `10`, a space, and anything up to the line end
+unfoldable pub commentLine : (place : ℕ) → Reader Line
+commentLine place = do
+  byte 32
+  bs ← rest
+  lineOf place (comment bs)
+
+-- ---- selectors: a number that the standard doesn't list is refused by 3
+
+-- the type of a theory statement: 0, 1, 2, 4, 5, 6
+unfoldable pub theoryType : Reader ℕ
+theoryType s at = bind (nextNatural 3 6 s at) (λ k n. pick (eqb k 3) (fault 3 (at + 1)) (found k n))
+
+-- a theory statement of the type k
+unfoldable pub theoryOf : (k place : ℕ) → Reader Line
+theoryOf k place =
+    pick (eqb k 0) (numericLine place)
+    (pick (eqb k 1) (stringLine place)
+    (pick (eqb k 2) (compoundLine place)
+    (pick (eqb k 4) (elementLine place)
+    (pick (eqb k 5) (theoryLine place) (guardedLine place)))))
+
+-- the rest of `9`, theory type, ..
+unfoldable pub theoryPart : (place : ℕ) → Reader Line
+theoryPart place = do
+  k ← theoryType
+  theoryOf k place
+
+-- a statement of the type k: 2, 3 and 5 to 8 are not carried
+unfoldable pub statementOf : (k place : ℕ) → Reader Line
+statementOf k place =
+    pick (eqb k 1) (ruleLine place)
+    (pick (eqb k 4) (outputLine place)
+    (pick (eqb k 9) (theoryPart place)
+    (pick (eqb k 10) (commentLine place) (λ s at. fault 4 place))))
+
+-- ---- the text
+
+-- the line end of the line `0`, and nothing after it
+unfoldable pub lastLine : Reader Unit
+lastLine s at = bind (byte 10 s at) (λ u n. pick (ltb n (length s)) (fault 3 n) (found tt n))
+
+-- at most n lines, of which the line `0` is the last
+unfoldable pub lines : (n : ℕ) → Reader (List Line)
+lines zero s at = fault 3 at
+lines (suc n) s at =
+    bind (natural 3 10 s at) (λ k m.
+    (pick (eqb k 0)
+    (lastLine >> pure [])
+    (statementOf k at >>= (λ x. lines n >>= (λ xs. pure (x ∷ xs))))) s m)
+
+-- the end of the first line: a tag, after a space, is not carried
+unfoldable pub noTag : Reader Unit
+noTag s at = pick (eqb (byteAt s at) 32) (fault 4 at) (byte 10 s at)
+
+-- `asp 1 0 0`
+unfoldable pub firstLine : Reader Unit
+firstLine = do
+  bytes (97 ∷ 115 ∷ 112 ∷ 32 ∷ 49 ∷ 32 ∷ 48 ∷ 32 ∷ 48 ∷ [])
+  noTag
+
+-- a text has at most as many lines as bytes
+unfoldable pub plan : Reader (List Line)
+plan s at = bind (firstLine s at) (λ u n. lines (length s) s n)
+
+abbrev pub answer : {A : Type 0} → Reading A → Answer A
+answer (found x n) = got x
+answer (fault k p) = refused k p
+
+-- what a text says, or 3, 4 or 5
+unfoldable pub statements : List ℕ → Answer (List Line)
+statements s = answer (plan s 0)

@@ -1,0 +1,122 @@
+// The candidate: from bytes into a bitmap, or 7.
+ghost use mathlib.Core.Path.{_≡_};
+ghost use lib.ListN.{length};
+ghost use Rattle.fields.specs.Values.{asAtom, asPassed};
+ghost use Rattle.aspif.specs.Grammar.{answer};
+ghost use Rattle.aspif.specs.Candidate.{atomAbove, ending, ascending, candidate, Blank};
+ghost use Rattle.aspif.specs.Values.{asMarked, refusalOfMarked};
+use faults::AtomNo;
+use faults::Kind;
+use faults::Refusal;
+use fields::AtomField;
+use fields::Cursor;
+use fields::Passed;
+use fields::WordField;
+
+// What marking the atoms gives.
+pub enum Marked {
+    Done,
+    Refused(Refusal),
+}
+
+impl Marked {
+    // The refusal of an answer that is one.
+    pub fn refusal(self) -> Refusal
+        ensures { λ r. ⌜ r ≡ refusalOfMarked self ⌝ }
+    {
+        match self {
+            Marked::Done => Refusal {
+                kind: Kind::Candidate,
+                place: 0,
+            },
+            Marked::Refused(r) => r,
+        }
+    }
+}
+
+// A refusal by 7 at a place.
+fn seven(place: usize) -> Refusal
+    ensures { λ r. ⌜ r ≡ record { kind = Kind.Candidate; place = place } ⌝ }
+{
+    Refusal {
+        kind: Kind::Candidate,
+        place,
+    }
+}
+
+// An atom to 4,096 that is above `low`.
+fn atom_above(c: Cursor, s: &[u8], low: u32) -> AtomField
+    ensures { λ r. ⌜ asAtom r ≡ atomAbove low (now (s .entry)) (c .at) ⌝ }
+{
+    let at = c.at;
+    let a = c.natural(s, 4096, Kind::Candidate);
+    let WordField::Got(v, n) = a else {
+        return AtomField::Refused(seven(at));
+    };
+    if v <= low {
+        return AtomField::Refused(seven(at));
+    }
+    AtomField::Got(AtomNo(v), n)
+}
+
+// Byte 10, and nothing after it.
+fn ending(c: Cursor, s: &[u8]) -> Passed
+    ensures { λ r. ⌜ asPassed r ≡ ending (now (s .entry)) (c .at) ⌝ }
+{
+    let at = c.at;
+    let a = c.byte(s, 10);
+    let Passed::Got(n) = a else {
+        return Passed::Refused(seven(at));
+    };
+    let end = n.at;
+    if end < s.len() {
+        return Passed::Refused(seven(end));
+    }
+    Passed::Got(n)
+}
+
+// Marks the atoms from the cursor on.
+fn ascending(c: Cursor, s: &[u8], x: &mut [u8]) -> Marked
+    requires { ⌜ Blank (now x) ⌝ }
+    ensures { λ r. ⌜ asMarked r (now (x .exit)) ≡ answer (ascending 4096 0 (now (s .entry)) (c .at)) ⌝ }
+{
+    let mut d = c;
+    let mut low: u32 = 0;
+    while low < 4096 {
+        let a = atom_above(d, s, low);
+        let AtomField::Got(v, e) = a else {
+            return Marked::Refused(a.refusal());
+        };
+        let i = v.0 as usize;
+        x[i] = 1;
+        if e.look(s) != 32 {
+            let b = ending(e, s);
+            let Passed::Got(_) = b else {
+                return Marked::Refused(b.refusal());
+            };
+            return Marked::Done;
+        }
+        let at = e.at;
+        let next = at + 1;
+        d = Cursor { at: next };
+        low = v.0;
+    }
+    let place = d.at;
+    Marked::Refused(seven(place))
+}
+
+// The atoms of the candidate, marked in a blank bitmap; or 7.
+pub fn candidate(s: &[u8], x: &mut [u8]) -> Marked
+    requires { ⌜ Blank (now x) ⌝ }
+    ensures { λ r. ⌜ asMarked r (now (x .exit)) ≡ candidate (now (s .entry)) ⌝ }
+{
+    let c = Cursor { at: 0 };
+    if c.look(s) == 10 {
+        let a = ending(c, s);
+        let Passed::Got(_) = a else {
+            return Marked::Refused(a.refusal());
+        };
+        return Marked::Done;
+    }
+    ascending(c, s, x)
+}

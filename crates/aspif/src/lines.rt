@@ -1,0 +1,123 @@
+// The lines of a text.
+ghost use mathlib.Core.Path.{_≡_};
+ghost use Prim.Native.Nat.{_+_, _≤_, _<_};
+ghost use lib.ListN.{length};
+ghost use Rattle.faults.specs.Answer.{mapped};
+ghost use Rattle.faults.specs.Values.{asStep};
+ghost use Rattle.fields.specs.Tape.{onTape};
+ghost use Rattle.fields.specs.Values.{asPassed, asWrote, roomy};
+ghost use Rattle.aspif.specs.Grammar.{answer, firstLine, lastLine, statementOf, lines};
+ghost use Rattle.aspif.specs.Words.{words, linesOf};
+ghost use Rattle.aspif.specs.Values.{asTape, taped, tapedIf};
+use crate::rules::comment_line;
+use crate::rules::output_line;
+use crate::rules::rule_line;
+use crate::theory::theory_part;
+use faults::Kind;
+use faults::Refusal;
+use faults::Step;
+use fields::Cursor;
+use fields::Passed;
+use fields::WordField;
+use fields::Wrote;
+
+// The first line: `asp 1 0 0`, and no tag.
+pub fn first_line(c: Cursor, s: &[u8]) -> Passed
+    ensures { λ r. ⌜ asPassed r ≡ firstLine (now (s .entry)) (c .at) ⌝ }
+{
+    let a = c.bytes(s, b"asp 1 0 0");
+    let Passed::Got(d) = a else {
+        return a;
+    };
+    if d.look(s) == 32 {
+        let place = d.at;
+        return Passed::Refused(Refusal {
+            kind: Kind::Carried,
+            place,
+        });
+    }
+    d.byte(s, 10)
+}
+
+// The line end of the line `0`, and nothing after it.
+fn last_line(c: Cursor, s: &[u8]) -> Passed
+    ensures { λ r. ⌜ asPassed r ≡ lastLine (now (s .entry)) (c .at) ⌝ }
+{
+    let a = c.byte(s, 10);
+    let Passed::Got(d) = a else {
+        return a;
+    };
+    let at = d.at;
+    if at < s.len() {
+        return Passed::Refused(Refusal {
+            kind: Kind::Grammar,
+            place: at,
+        });
+    }
+    Passed::Got(Cursor { at })
+}
+
+// The rest of a line of the type k, onto the tape from `out` on.
+fn statement_of(c: Cursor, s: &[u8], k: u32, place: usize, tape: &mut [u32], out: usize) -> Wrote
+    requires { ⌜ (out ≤ place) × (place < c .at) × (length (now s) ≤ length (now tape)) × (length (now s) ≤ 60000) × (place < 60000) ⌝ }
+    requires { ⌜ (k ≡ 10 → place + 1 < c .at) ⌝ }
+    ensures { λ r. ⌜ asWrote r (now (tape .exit)) ≡ onTape words (now (tape .entry)) out (statementOf k place (now (s .entry)) (c .at)) ⌝ }
+    ensures { λ r. ⌜ roomy r ⌝ }
+{
+    let line = place as u32;
+    if k == 1 {
+        return rule_line(c, s, line, tape, out);
+    }
+    if k == 4 {
+        return output_line(c, s, line, tape, out);
+    }
+    if k == 9 {
+        return theory_part(c, s, line, tape, out);
+    }
+    if k == 10 {
+        return comment_line(c, s, line, tape, out);
+    }
+    Wrote::Refused(Refusal {
+        kind: Kind::Carried,
+        place,
+    })
+}
+
+// At most n lines, of which the line `0` is the last, on the tape from its start on; and how many they are.
+pub fn lines(c: Cursor, s: &[u8], n: usize, tape: &mut [u32]) -> Step
+    requires { ⌜ (length (now s) ≤ length (now tape)) × (length (now s) ≤ 60000) ⌝ }
+    ensures { λ r. ⌜ asTape r (now (tape .exit)) ≡ taped (now (tape .entry)) (answer (lines n (now (s .entry)) (c .at))) ⌝ }
+    ensures { λ r. ⌜ mapped (linesOf (now (tape .exit))) (asStep r) ≡ answer (lines n (now (s .entry)) (c .at)) ⌝ }
+    ensures { λ r. ⌜ tapedIf r (now (tape .exit)) ⌝ }
+{
+    let mut d = c;
+    let mut o: usize = 0;
+    let mut left = n;
+    while 0 < left {
+        let place = d.at;
+        let a = d.natural(s, 10, Kind::Grammar);
+        let WordField::Got(k, e) = a else {
+            return Step::Refused(a.refusal());
+        };
+        if k == 0 {
+            let l = last_line(e, s);
+            let Passed::Got(_) = l else {
+                return Step::Refused(l.refusal());
+            };
+            let count = n - left;
+            return Step::Good(count);
+        }
+        let w = statement_of(e, s, k, place, tape, o);
+        let Wrote::Got(f, p) = w else {
+            return Step::Refused(w.refusal());
+        };
+        d = f;
+        o = p;
+        left -= 1;
+    }
+    let place = d.at;
+    Step::Refused(Refusal {
+        kind: Kind::Grammar,
+        place,
+    })
+}

@@ -1,0 +1,133 @@
+// Rules, outputs and comments: the rest of a line whose type has been read, onto the tape from `out` on.
+ghost use mathlib.Core.Path.{_≡_};
+ghost use Prim.Native.Nat.{_+_, _≤_, _<_};
+ghost use lib.ListN.{length};
+ghost use Rattle.fields.specs.Tape.{onTape, listed};
+ghost use Rattle.fields.specs.Values.{asPassed, asWrote, roomy};
+ghost use Rattle.aspif.specs.Grammar.{heads, bodyKind, literals, body, ruleLine, outputLine, commentLine};
+ghost use Rattle.aspif.specs.Words.{words};
+use crate::tape::begin;
+use crate::tape::begin_with;
+use crate::tape::end_line;
+use faults::Kind;
+use faults::Refusal;
+use fields::Cursor;
+use fields::Item;
+use fields::Passed;
+use fields::WordField;
+use fields::Wrote;
+
+// The atoms of a head of a kind: in a plain one, a count of 2 or more is not carried.
+fn heads(c: Cursor, s: &[u8], kind: u32, tape: &mut [u32], out: usize) -> Wrote
+    requires { ⌜ (out ≤ c .at) × (length (now s) ≤ length (now tape)) ⌝ }
+    ensures { λ r. ⌜ asWrote r (now (tape .exit)) ≡ onTape listed (now (tape .entry)) out (heads kind (now (s .entry)) (c .at)) ⌝ }
+    ensures { λ r. ⌜ roomy r ⌝ }
+{
+    if kind == 0 {
+        return c.counted(s, Item::Atom, 1, Kind::Carried, tape, out);
+    }
+    c.counted(s, Item::Atom, 4096, Kind::Bounds, tape, out)
+}
+
+// The kind of a body: 0, a normal body.
+fn body_kind(c: Cursor, s: &[u8]) -> Passed
+    ensures { λ r. ⌜ asPassed r ≡ bodyKind (now (s .entry)) (c .at) ⌝ }
+{
+    let a = c.next_natural(s, 1, Kind::Grammar);
+    let WordField::Got(k, d) = a else {
+        return Passed::Refused(a.refusal());
+    };
+    if k == 0 {
+        return Passed::Got(d);
+    }
+    let at = c.at;
+    let place = at + 1;
+    Passed::Refused(Refusal {
+        kind: Kind::Carried,
+        place,
+    })
+}
+
+// A count and so many literals.
+pub fn literals(c: Cursor, s: &[u8], tape: &mut [u32], out: usize) -> Wrote
+    requires { ⌜ (out ≤ c .at) × (length (now s) ≤ length (now tape)) ⌝ }
+    ensures { λ r. ⌜ asWrote r (now (tape .exit)) ≡ onTape listed (now (tape .entry)) out (literals (now (s .entry)) (c .at)) ⌝ }
+    ensures { λ r. ⌜ roomy r ⌝ }
+{
+    c.counted(s, Item::Literal, 4096, Kind::Bounds, tape, out)
+}
+
+// A normal body: its kind, a count and so many literals.
+fn body(c: Cursor, s: &[u8], tape: &mut [u32], out: usize) -> Wrote
+    requires { ⌜ (out ≤ c .at) × (length (now s) ≤ length (now tape)) ⌝ }
+    ensures { λ r. ⌜ asWrote r (now (tape .exit)) ≡ onTape listed (now (tape .entry)) out (body (now (s .entry)) (c .at)) ⌝ }
+    ensures { λ r. ⌜ roomy r ⌝ }
+{
+    let a = body_kind(c, s);
+    let Passed::Got(d) = a else {
+        return Wrote::Refused(a.refusal());
+    };
+    literals(d, s, tape, out)
+}
+
+// A rule: head and body.
+pub fn rule_line(c: Cursor, s: &[u8], place: u32, tape: &mut [u32], out: usize) -> Wrote
+    requires { ⌜ (out < c .at) × (length (now s) ≤ length (now tape)) ⌝ }
+    ensures { λ r. ⌜ asWrote r (now (tape .exit)) ≡ onTape words (now (tape .entry)) out (ruleLine place (now (s .entry)) (c .at)) ⌝ }
+    ensures { λ r. ⌜ roomy r ⌝ }
+{
+    let a = c.next_natural(s, 1, Kind::Grammar);
+    let WordField::Got(kind, d) = a else {
+        return Wrote::Refused(a.refusal());
+    };
+    let o1 = begin_with(tape, out, 1, place, kind);
+    let h = heads(d, s, kind, tape, o1);
+    let Wrote::Got(e, o2) = h else {
+        return h;
+    };
+    let b = body(e, s, tape, o2);
+    let Wrote::Got(f, o3) = b else {
+        return b;
+    };
+    end_line(f, s, o3)
+}
+
+// An output: a string and literals.
+pub fn output_line(c: Cursor, s: &[u8], place: u32, tape: &mut [u32], out: usize) -> Wrote
+    requires { ⌜ (out < c .at) × (length (now s) ≤ length (now tape)) ⌝ }
+    ensures { λ r. ⌜ asWrote r (now (tape .exit)) ≡ onTape words (now (tape .entry)) out (outputLine place (now (s .entry)) (c .at)) ⌝ }
+    ensures { λ r. ⌜ roomy r ⌝ }
+{
+    let a = c.string_length(s);
+    let WordField::Got(n, d) = a else {
+        return Wrote::Refused(a.refusal());
+    };
+    let o1 = begin(tape, out, 4, place);
+    let t = d.listed(s, Item::Char, n, tape, o1);
+    let Wrote::Got(e, o2) = t else {
+        return t;
+    };
+    let b = literals(e, s, tape, o2);
+    let Wrote::Got(f, o3) = b else {
+        return b;
+    };
+    end_line(f, s, o3)
+}
+
+// A comment: a space, and anything up to the line end.
+pub fn comment_line(c: Cursor, s: &[u8], place: u32, tape: &mut [u32], out: usize) -> Wrote
+    requires { ⌜ (out + 1 < c .at) × (length (now s) ≤ length (now tape)) × (length (now s) ≤ 60000) ⌝ }
+    ensures { λ r. ⌜ asWrote r (now (tape .exit)) ≡ onTape words (now (tape .entry)) out (commentLine place (now (s .entry)) (c .at)) ⌝ }
+    ensures { λ r. ⌜ roomy r ⌝ }
+{
+    let a = c.byte(s, 32);
+    let Passed::Got(d) = a else {
+        return Wrote::Refused(a.refusal());
+    };
+    let o1 = begin(tape, out, 10, place);
+    let t = d.rest(s, tape, o1);
+    let Wrote::Got(e, o2) = t else {
+        return t;
+    };
+    end_line(e, s, o2)
+}
