@@ -8,3 +8,4 @@ pub mod Marks
 pub mod Candidates
 pub mod Ending
 pub mod Turns
+pub mod Walking
