@@ -15,7 +15,7 @@ use Rattle.fields.proofs.Decimal.{value-grows}
 use Rattle.fields.proofs.Naturals.{there, natural-within}
 use Rattle.aspif.specs.Grammar.{answer}
 use Rattle.aspif.specs.Candidate.{sevenfold, atomAbove, ending, ascending, atoms, candidate, AscendingFrom, atomsOf, Blank}
-use Rattle.aspif.proofs.Marks.{marks-none, marks-more}
+use Rattle.faults.proofs.Marks.{marks-none, marks-more}
 
 -- ---- a field
 

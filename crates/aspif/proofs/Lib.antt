@@ -4,7 +4,6 @@ pub mod Coding
 pub mod Decoding
 pub mod Bounds
 pub mod Counter
-pub mod Marks
 pub mod Candidates
 pub mod Ending
 pub mod Turns

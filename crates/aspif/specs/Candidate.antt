@@ -5,6 +5,7 @@ use mathlib.Core.List.{List, [], _∷_}
 use lib.ListN.{length, getD}
 use lib.Dec.{eqb, leb, ltb}
 use Rattle.faults.specs.Answer.{Answer, pick}
+use Rattle.faults.specs.Marks.{marks}
 use Rattle.fields.specs.Reading.{Reading, found, fault, Reader, bind}
 use Rattle.fields.specs.Fields.{byteAt, byte, natural}
 use Rattle.aspif.specs.Grammar.{answer}
@@ -46,14 +47,9 @@ AscendingFrom low (v ∷ vs) = (low < v) × (v ≤ 4096) × AscendingFrom v vs
 
 -- ---- a bitmap
 
--- the places from i on that are 1
-unfoldable pub markedFrom : ℕ → List ℕ → List ℕ
-markedFrom i [] = []
-markedFrom i (b ∷ bs) = pick (eqb b 1) (i ∷ markedFrom (i + 1) bs) (markedFrom (i + 1) bs)
-
 -- the atoms that a bitmap holds, ascending
-unfoldable pub atomsOf : List ℕ → List ℕ
-atomsOf x = markedFrom 0 x
+abbrev pub atomsOf : List ℕ → List ℕ
+atomsOf x = marks 0 x
 
 -- a bitmap of the atoms 0 to 4,096 that holds none
 pub record Blank (x : List ℕ) : Type 0 where

@@ -1,8 +1,6 @@
 -- What the lines of a plan say: document 01, 'Reading the text'. Assumes nothing.
 use Prim.Native.Nat.{ℕ}
-use mathlib.Core.Bool.{Bool, false, _||_}
-use mathlib.Core.List.{List, [], _∷_}
-use lib.Dec.{eqb}
+use mathlib.Core.List.{List}
 use lib.IntN.{ℤ}
 
 -- an atom, or an atom under default negation
@@ -31,8 +29,3 @@ pub data Statement : Type 0 where
 pub record Line : Type 0 where
   pub place : ℕ
   pub says : Statement
-
--- a stands in the list
-abbrev pub among : ℕ → List ℕ → Bool
-among a [] = false
-among a (b ∷ bs) = eqb a b || among a bs

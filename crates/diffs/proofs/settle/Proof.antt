@@ -1,0 +1,72 @@
+-- `settle`: r rounds are made, each of which raised something, the last one the name `last`.
+use mathlib.Core.Path.{refl, sym, _∙_}
+use mathlib.Core.Logic.{inl, inr}
+use Prim.Native.Nat.{_+_, _-_, _≤_}
+use native.Mathlib.Omega.{arith}
+use lib.ListN.{length}
+use Rattle.diffs.specs.Answer.{diffAt}
+use Rattle.diffs.specs.Steps.{Between}
+use Rattle.diffs.proofs.Rounds.{first, quiet, next, stuck, underway, rounded}
+use Rattle.diffs.proofs.settle.Statement.{statement}
+use Rattle.diffs.proofs.settle.Tie as tie
+
+abbrev Inv-loop : tie.InvT-loop
+Inv-loop xs ys ks t₀ p₀ n last₀ r₀ t p last r = (r ≤ n + 1) × Between (length ks) n (diffAt xs ys ks) r last t p
+
+abbrev μ-loop : tie.MeasureT-loop
+μ-loop xs ys ks t₀ p₀ n last₀ r₀ t p last r = n + 1 - r
+
+loop-holds : tie.Need-loop-holds Inv-loop μ-loop
+loop-holds c =
+    let g = c .before .before .before .before .pre in
+    (omega arith, first _ _ _ _ _ _ (g .zeros) refl (g .parents))
+
+round-requires : tie.Need-round-requires Inv-loop μ-loop
+round-requires c κs =
+    let g = c .before .before .before .before .before .before .before .before .pre in
+    underway _ _ _ _ _ _ _ _ (g .slices) (g .names) (omega arith) (c .before .before .before .loop .inv .1)
+
+same-length : tie.Need-same-length Inv-loop μ-loop
+same-length c = rounded _ _ _ _ _ _ _ _ _ _ (c .before .before .before .before .before .before .before .before .before .loop .inv .1) (c .before .before .before .before .before .round .ensures) .times
+
+same-length-2 : tie.Need-same-length-2 Inv-loop μ-loop
+same-length-2 c = rounded _ _ _ _ _ _ _ _ _ _ (c .before .before .before .before .before .before .before .before .before .loop .inv .1) (c .before .before .before .before .before .round .ensures) .parents ∙ sym (c .before .before .before .before .before .before .before .before .before .before .before .before .before .before .pre .parents)
+
+returns : tie.Need-returns Inv-loop μ-loop
+returns c = inl (refl, quiet _ _ _ _ _ _ _ (rounded _ _ _ _ _ _ _ _ _ _ (c .before .before .before .before .before .before .before .before .before .loop .inv .1) (c .before .before .before .before .before .round .ensures)) (c .if1 .taken))
+
+add-r : tie.Need-add-r Inv-loop μ-loop
+add-r c = record { fits = omega (arith, c .before .before .before .before .before .before .before .before .before .before .before .before .before .before .pre .names) }
+
+loop-less : tie.Need-loop-less Inv-loop μ-loop
+loop-less c = omega arith
+
+loop-again : tie.Need-loop-again Inv-loop μ-loop
+loop-again c = (omega arith, next _ _ _ _ _ _ _ (rounded _ _ _ _ _ _ _ _ _ _ (c .before .before .before .before .before .before .before .before .before .loop .inv .1) (c .before .before .before .before .before .round .ensures)) (c .if1 .left))
+
+same-length-3 : tie.Need-same-length-3 Inv-loop μ-loop
+same-length-3 c = c .before .loop .inv .1 .times
+
+same-length-4 : tie.Need-same-length-4 Inv-loop μ-loop
+same-length-4 c = c .before .loop .inv .1 .parents ∙ sym (c .before .before .before .before .before .before .pre .parents)
+
+returns-2 : tie.Need-returns-2 Inv-loop μ-loop
+returns-2 c = inr (stuck _ _ _ _ _ _ _ (c .before .loop .inv .1) (omega arith))
+
+pub settle-spec : {M : Type 1} → statement M
+settle-spec =
+    tie.close
+    (tie.spec
+    Inv-loop
+    μ-loop
+    loop-holds
+    round-requires
+    same-length
+    same-length-2
+    returns
+    add-r
+    loop-less
+    loop-again
+    same-length-3
+    same-length-4
+    returns-2)

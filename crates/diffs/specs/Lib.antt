@@ -1,0 +1,3 @@
+pub mod Diff
+pub mod Answer
+pub mod Steps

@@ -1,0 +1,5 @@
+-- The definitions that the contracts cite.
+pub mod Word
+pub mod Table
+pub mod Times
+pub mod Given

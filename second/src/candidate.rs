@@ -1,0 +1,45 @@
+//! The reading of a candidate: refusal 7.
+
+use crate::fields::{Fields, Finding, LINE_END};
+use crate::reading::LARGEST_ATOM;
+use crate::refusal::Refusal;
+
+pub const MALFORMED: u32 = 7;
+
+/// Reads a candidate into its atoms, strictly ascending.
+// Reads the atoms and the line end, and asks that nothing follow.
+pub fn read_candidate(cand: &[u8]) -> Result<Vec<u32>, Refusal> {
+    let mut fields = Fields::new(cand, 0, MALFORMED);
+    let atoms = atoms(&mut fields)?;
+    fields.line_end()?;
+    if !fields.ended() {
+        return Err(fields.fault_here());
+    }
+    Ok(atoms)
+}
+
+// The atoms before the line end.
+fn atoms(fields: &mut Fields) -> Result<Vec<u32>, Refusal> {
+    let mut atoms = Vec::new();
+    if fields.byte() == Some(LINE_END) {
+        return Ok(atoms);
+    }
+    atoms.push(atom_above(fields, 0)?);
+    while !fields.ended() && fields.byte() != Some(LINE_END) {
+        fields.space()?;
+        let last = atoms[atoms.len() - 1];
+        atoms.push(atom_above(fields, last)?);
+    }
+    Ok(atoms)
+}
+
+// One atom, above the one before it and within bounds.
+fn atom_above(fields: &mut Fields, before: u32) -> Result<u32, Refusal> {
+    let least = u64::from(before) + 1;
+    let most = u64::from(LARGEST_ATOM);
+    let find = |v| match v {
+        v if least <= v && v <= most => Finding::Right,
+        _ => Finding::Wrong(MALFORMED),
+    };
+    Ok(fields.natural(find)? as u32)
+}

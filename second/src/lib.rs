@@ -1,0 +1,23 @@
+//! A second opinion on the plan judge, written from document 01 and the
+//! decided points alone. It shares no code with any other implementation.
+
+pub mod candidate;
+pub mod describing;
+pub mod differences;
+pub mod fields;
+pub mod generating;
+pub mod judging;
+pub mod meaning;
+pub mod random;
+pub mod reading;
+pub mod refusal;
+pub mod times;
+pub mod timetable;
+
+pub use candidate::read_candidate;
+pub use describing::{describe, describe_candidate};
+pub use differences::{terms, Difference};
+pub use judging::{check_cycle, judge, report, show};
+pub use reading::{read_text, Base, Line, Literal, Statement};
+pub use refusal::{Refusal, Verdict};
+pub use timetable::time;

@@ -1,0 +1,308 @@
+//! The reading of a plan text: refusals 3, 4 and 5.
+
+use crate::fields::{Fields, Finding, LINE_END, SPACE};
+use crate::refusal::{refusal, Refusal};
+
+pub const GRAMMAR: u32 = 3;
+pub const NOT_CARRIED: u32 = 4;
+pub const BEYOND: u32 = 5;
+
+pub const TEXT_BYTES: usize = 60_000;
+pub const LARGEST_ATOM: u32 = 4_096;
+pub const LARGEST_INDEX: u32 = 1_023;
+pub const LARGEST_COUNT: u64 = 4_096;
+pub const LARGEST_NUMBER: i64 = 1_000_000;
+
+const FIRST_LINE: &[u8; 9] = b"asp 1 0 0";
+
+/// A literal: an atom, or its default negation.
+#[derive(Clone, Copy, Debug, PartialEq, Eq)]
+pub struct Literal {
+    pub atom: u32,
+    pub negated: bool,
+}
+
+/// What a compound is built with.
+#[derive(Clone, Copy, Debug, PartialEq, Eq)]
+pub enum Base {
+    Tuple,
+    Set,
+    List,
+    Term(u32),
+}
+
+/// One statement of the text.
+#[derive(Clone, Debug, PartialEq, Eq)]
+pub enum Statement {
+    Rule { choice: bool, head: Vec<u32>, body: Vec<Literal> },
+    Output { string: Vec<u8>, condition: Vec<Literal> },
+    Number { term: u32, value: i32 },
+    Symbol { term: u32, string: Vec<u8> },
+    Compound { term: u32, base: Base, arguments: Vec<u32> },
+    Element { element: u32, terms: Vec<u32>, condition: Vec<Literal> },
+    Theory { atom: u32, name: u32, elements: Vec<u32>, guard: Option<(u32, u32)> },
+    Comment { bytes: Vec<u8> },
+}
+
+/// A statement with the place of its line's first byte.
+#[derive(Clone, Debug, PartialEq, Eq)]
+pub struct Line {
+    pub place: u32,
+    pub statement: Statement,
+}
+
+// Right inside the range, else the number given.
+fn within<N: PartialOrd>(value: N, least: N, most: N, number: u32) -> Finding {
+    if least <= value && value <= most {
+        Finding::Right
+    } else {
+        Finding::Wrong(number)
+    }
+}
+
+/// Reads a whole text; its length is judged elsewhere (refusal 2).
+// Reads the first line, the statements, the `0` line, and asks that nothing follow.
+pub fn read_text(text: &[u8]) -> Result<Vec<Line>, Refusal> {
+    first_line(text)?;
+    let mut fields = Fields::new(text, FIRST_LINE.len() + 1, GRAMMAR);
+    let mut lines = Vec::new();
+    while let Some(line) = line(&mut fields)? {
+        lines.push(line);
+    }
+    if !fields.ended() {
+        return Err(fields.fault_here());
+    }
+    Ok(lines)
+}
+
+// Compares the first nine bytes one by one, then judges the byte after them.
+fn first_line(text: &[u8]) -> Result<(), Refusal> {
+    for (at, wanted) in FIRST_LINE.iter().enumerate() {
+        if text.get(at) != Some(wanted) {
+            return Err(refusal(GRAMMAR, at));
+        }
+    }
+    match text.get(FIRST_LINE.len()) {
+        Some(&LINE_END) => Ok(()),
+        Some(&SPACE) => Err(refusal(NOT_CARRIED, FIRST_LINE.len())),
+        _ => Err(refusal(GRAMMAR, FIRST_LINE.len())),
+    }
+}
+
+// Reads one line; none for the line `0`.
+fn line(fields: &mut Fields) -> Result<Option<Line>, Refusal> {
+    let place = fields.at() as u32;
+    let statement = match fields.natural(statement_type)? {
+        0 => {
+            fields.line_end()?;
+            return Ok(None);
+        }
+        1 => rule(fields)?,
+        4 => output(fields)?,
+        9 => theory(fields)?,
+        _ => comment(fields)?,
+    };
+    fields.line_end()?;
+    Ok(Some(Line { place, statement }))
+}
+
+// Statement types: carried, not carried, or unknown.
+fn statement_type(value: u64) -> Finding {
+    match value {
+        0 | 1 | 4 | 9 | 10 => Finding::Right,
+        2 | 3 | 5..=8 => Finding::Wrong(NOT_CARRIED),
+        _ => Finding::Wrong(GRAMMAR),
+    }
+}
+
+// Theory types: 3 is not among them.
+fn theory_type(value: u64) -> Finding {
+    match value {
+        0..=2 | 4..=6 => Finding::Right,
+        _ => Finding::Wrong(GRAMMAR),
+    }
+}
+
+// Head kinds: 0 plain, 1 choice.
+fn head_kind(value: u64) -> Finding {
+    within(value, 0, 1, GRAMMAR)
+}
+
+// Body kinds: 0 normal; 1 is a weight body.
+fn body_kind(value: u64) -> Finding {
+    match value {
+        0 => Finding::Right,
+        1 => Finding::Wrong(NOT_CARRIED),
+        _ => Finding::Wrong(GRAMMAR),
+    }
+}
+
+// Counts and string lengths.
+fn count(value: u64) -> Finding {
+    within(value, 0, LARGEST_COUNT, BEYOND)
+}
+
+// The count of a plain head: at most one atom is carried.
+fn plain_count(value: u64) -> Finding {
+    within(value, 0, 1, NOT_CARRIED)
+}
+
+// An atom of a head.
+fn head_atom(value: u64) -> Finding {
+    within(value, 1, u64::from(LARGEST_ATOM), BEYOND)
+}
+
+// The atom of a theory atom: 0 would be a directive.
+fn theory_atom(value: u64) -> Finding {
+    match value {
+        0 => Finding::Wrong(NOT_CARRIED),
+        _ => head_atom(value),
+    }
+}
+
+// A term or element number.
+fn index(value: u64) -> Finding {
+    within(value, 0, u64::from(LARGEST_INDEX), BEYOND)
+}
+
+// A literal: not 0, and an atom on either side.
+fn literal_value(value: i64) -> Finding {
+    within(value.abs(), 1, i64::from(LARGEST_ATOM), BEYOND)
+}
+
+// The value of a numeric term.
+fn number_value(value: i64) -> Finding {
+    within(value, -LARGEST_NUMBER, LARGEST_NUMBER, BEYOND)
+}
+
+// What stands as t in a compound.
+fn base_value(value: i64) -> Finding {
+    within(value, -3, i64::from(LARGEST_INDEX), BEYOND)
+}
+
+// A space, then a natural.
+fn next_natural(fields: &mut Fields, find: fn(u64) -> Finding) -> Result<u64, Refusal> {
+    fields.space()?;
+    fields.natural(find)
+}
+
+// A space, then a natural that fits 32 bits by its range.
+fn next_small(fields: &mut Fields, find: fn(u64) -> Finding) -> Result<u32, Refusal> {
+    Ok(next_natural(fields, find)? as u32)
+}
+
+// A space, then an integer.
+fn next_integer(fields: &mut Fields, find: fn(i64) -> Finding) -> Result<i64, Refusal> {
+    fields.space()?;
+    fields.integer(find)
+}
+
+// A space, then a literal.
+fn literal(fields: &mut Fields) -> Result<Literal, Refusal> {
+    let value = next_integer(fields, literal_value)?;
+    Ok(Literal { atom: value.unsigned_abs() as u32, negated: value < 0 })
+}
+
+// A space, a count, and that many literals.
+fn literals(fields: &mut Fields) -> Result<Vec<Literal>, Refusal> {
+    let n = next_natural(fields, count)?;
+    (0..n).map(|_| literal(fields)).collect()
+}
+
+// A space, a count, and that many term or element numbers.
+fn indices(fields: &mut Fields) -> Result<Vec<u32>, Refusal> {
+    let n = next_natural(fields, count)?;
+    (0..n).map(|_| next_small(fields, index)).collect()
+}
+
+// A space, a length, a space, and that many string bytes.
+fn string(fields: &mut Fields) -> Result<Vec<u8>, Refusal> {
+    let n = next_natural(fields, count)?;
+    fields.space()?;
+    fields.string(n)
+}
+
+// A rule after its type: head, then body.
+fn rule(fields: &mut Fields) -> Result<Statement, Refusal> {
+    let choice = next_natural(fields, head_kind)? == 1;
+    let n = next_natural(fields, if choice { count } else { plain_count })?;
+    let head = (0..n).map(|_| next_small(fields, head_atom)).collect::<Result<_, _>>()?;
+    next_natural(fields, body_kind)?;
+    let body = literals(fields)?;
+    Ok(Statement::Rule { choice, head, body })
+}
+
+// An output statement after its type.
+fn output(fields: &mut Fields) -> Result<Statement, Refusal> {
+    let string = string(fields)?;
+    let condition = literals(fields)?;
+    Ok(Statement::Output { string, condition })
+}
+
+// A theory statement after its type.
+fn theory(fields: &mut Fields) -> Result<Statement, Refusal> {
+    match next_natural(fields, theory_type)? {
+        0 => number(fields),
+        1 => symbol(fields),
+        2 => compound(fields),
+        4 => element(fields),
+        kind => atom(fields, kind == 6),
+    }
+}
+
+// A numeric term.
+fn number(fields: &mut Fields) -> Result<Statement, Refusal> {
+    let term = next_small(fields, index)?;
+    let value = next_integer(fields, number_value)? as i32;
+    Ok(Statement::Number { term, value })
+}
+
+// A string term.
+fn symbol(fields: &mut Fields) -> Result<Statement, Refusal> {
+    let term = next_small(fields, index)?;
+    let string = string(fields)?;
+    Ok(Statement::Symbol { term, string })
+}
+
+// A compound term.
+fn compound(fields: &mut Fields) -> Result<Statement, Refusal> {
+    let term = next_small(fields, index)?;
+    let base = match next_integer(fields, base_value)? {
+        -1 => Base::Tuple,
+        -2 => Base::Set,
+        -3 => Base::List,
+        t => Base::Term(t as u32),
+    };
+    let arguments = indices(fields)?;
+    Ok(Statement::Compound { term, base, arguments })
+}
+
+// An element with its terms and condition.
+fn element(fields: &mut Fields) -> Result<Statement, Refusal> {
+    let element = next_small(fields, index)?;
+    let terms = indices(fields)?;
+    let condition = literals(fields)?;
+    Ok(Statement::Element { element, terms, condition })
+}
+
+// A theory atom, with operator and bound if it is guarded.
+fn atom(fields: &mut Fields, guarded: bool) -> Result<Statement, Refusal> {
+    let atom = next_small(fields, theory_atom)?;
+    let name = next_small(fields, index)?;
+    let elements = indices(fields)?;
+    let guard = if guarded { Some(guard(fields)?) } else { None };
+    Ok(Statement::Theory { atom, name, elements, guard })
+}
+
+// The operator term and the bound term.
+fn guard(fields: &mut Fields) -> Result<(u32, u32), Refusal> {
+    let operator = next_small(fields, index)?;
+    let bound = next_small(fields, index)?;
+    Ok((operator, bound))
+}
+
+// A comment after its type: a space, then anything up to the line end.
+fn comment(fields: &mut Fields) -> Result<Statement, Refusal> {
+    fields.space()?;
+    Ok(Statement::Comment { bytes: fields.rest_of_line()? })
+}

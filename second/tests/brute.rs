@@ -1,0 +1,562 @@
+//! Cross-checks against slow definitions.
+mod common;
+use common::*;
+use second::generating;
+use second::random::Random;
+use second::{check_cycle, describe, read_candidate, read_text, terms, time, Difference, Line, Refusal, Statement, Verdict};
+use std::collections::BTreeMap;
+
+// A set of the atoms 1 to 20 as bits.
+type Bits = u32;
+
+// The bit of an atom.
+fn bit(atom: u32) -> Bits {
+    1 << atom
+}
+
+// Whether a rule's body is true with the positive atoms from one set, the negated from another.
+fn body_true(statement: &Statement, positive: Bits, negated: Bits) -> bool {
+    let Statement::Rule { body, .. } = statement else { return false };
+    body.iter().all(|l| if l.negated { negated & bit(l.atom) == 0 } else { positive & bit(l.atom) != 0 })
+}
+
+// Whether a plain rule is satisfied by X.
+fn satisfied(statement: &Statement, x: Bits) -> bool {
+    match statement {
+        Statement::Rule { choice: false, head, .. } => !body_true(statement, x, x) || head.iter().any(|a| x & bit(*a) != 0),
+        _ => true,
+    }
+}
+
+// Whether Y is a model of the reduct by X, externals as facts.
+fn models_reduct(lines: &[Line], facts: Bits, y: Bits, x: Bits) -> bool {
+    let rule = |s: &Statement| match s {
+        Statement::Rule { choice: true, head, .. } => {
+            !body_true(s, y, x) || head.iter().all(|a| x & bit(*a) == 0 || y & bit(*a) != 0)
+        }
+        Statement::Rule { head, .. } => !body_true(s, y, x) || head.iter().any(|a| y & bit(*a) != 0),
+        _ => true,
+    };
+    y & facts == facts && lines.iter().all(|l| rule(&l.statement))
+}
+
+// The externals of X.
+fn facts(lines: &[Line], differences: &[Difference], x: Bits) -> Bits {
+    let in_head = |a: u32| lines.iter().any(|l| matches!(&l.statement, Statement::Rule { head, .. } if head.contains(&a)));
+    differences.iter().filter(|d| !in_head(d.atom)).map(|d| bit(d.atom)).fold(0, |a, b| a | b) & x
+}
+
+// All subsets of a set.
+fn subsets(set: Bits) -> Vec<Bits> {
+    let mut all = vec![set];
+    let mut at = set;
+    while at != 0 {
+        at = (at - 1) & set;
+        all.push(at);
+    }
+    all
+}
+
+// By enumeration: 8 with the place, 9 with the atom, or nothing.
+fn slow_stability(lines: &[Line], differences: &[Difference], x: Bits) -> Option<(u32, u32)> {
+    if let Some(l) = lines.iter().find(|l| !satisfied(&l.statement, x)) {
+        return Some((8, l.place));
+    }
+    let facts = facts(lines, differences, x);
+    let models: Vec<Bits> = subsets(x).into_iter().filter(|y| models_reduct(lines, facts, *y, x)).collect();
+    assert!(models.contains(&x));
+    let least = models.iter().fold(x, |a, b| a & b);
+    let minimal = models.iter().all(|y| *y == x);
+    assert_eq!(minimal, least == x);
+    if minimal {
+        None
+    } else {
+        Some((9, (x & !least).trailing_zeros()))
+    }
+}
+
+// The names and the differences in force.
+fn in_force(differences: &[Difference], atoms: &[u32]) -> (Vec<u32>, Vec<Difference>) {
+    let mut names: Vec<u32> = differences.iter().flat_map(|d| [d.x, d.y]).collect();
+    names.sort();
+    names.dedup();
+    (names, differences.iter().filter(|d| atoms.contains(&d.atom)).copied().collect())
+}
+
+// Floyd-Warshall: whether a cycle with a sum below zero exists.
+fn negative_cycle(names: &[u32], force: &[Difference]) -> bool {
+    const FAR: i64 = i64::MAX / 4;
+    let n = names.len();
+    let at = |t: u32| names.iter().position(|n| *n == t).unwrap();
+    let mut d = vec![vec![FAR; n]; n];
+    for f in force {
+        let (x, y) = (at(f.x), at(f.y));
+        d[x][y] = d[x][y].min(f.bound);
+    }
+    for k in 0..n {
+        for i in 0..n {
+            for j in 0..n {
+                if d[i][k] < FAR && d[k][j] < FAR {
+                    d[i][j] = d[i][j].min(d[i][k] + d[k][j]);
+                }
+            }
+        }
+    }
+    (0..n).any(|i| d[i][i] < 0)
+}
+
+// The least times by raising one name at a time, only where no negative cycle is.
+fn slow_times(names: &[u32], force: &[Difference]) -> BTreeMap<u32, i64> {
+    let mut times: BTreeMap<u32, i64> = names.iter().map(|n| (*n, 0)).collect();
+    while let Some(f) = force.iter().rev().find(|f| times[&f.x] - times[&f.y] > f.bound) {
+        let least = times[&f.x] - f.bound;
+        times.insert(f.y, least);
+    }
+    times
+}
+
+// Checks one readable case against everything slow; gives the verdict's number, 0 for accepted.
+fn check(text: &[u8], cand: &[u8]) -> u32 {
+    let lines = read_text(text).unwrap();
+    let differences = terms(&lines).unwrap();
+    let atoms = read_candidate(cand).unwrap();
+    let x: Bits = atoms.iter().map(|a| bit(*a)).sum();
+    let got = judged(text, cand);
+    if let Some((number, place)) = slow_stability(&lines, &differences, x) {
+        assert_eq!(got.verdict, refused(number, place));
+        return number;
+    }
+    let (names, force) = in_force(&differences, &atoms);
+    if negative_cycle(&names, &force) {
+        assert_eq!(got.verdict, refused(10, got.cycle.len() as u32));
+        assert!(check_cycle(text, cand, &got.cycle), "{:?}", got.cycle);
+        return 10;
+    }
+    check_table(&got, &names, &atoms, &slow_times(&names, &force));
+    0
+}
+
+// Checks an accepted table byte by byte and read back.
+fn check_table(got: &Judged, names: &[u32], atoms: &[u32], times: &BTreeMap<u32, i64>) {
+    let mut words = vec![names.len() as u32, atoms.len() as u32, 16, 16 + 8 * names.len() as u32];
+    words.extend(names.iter().flat_map(|n| [*n, times[n] as u32]));
+    words.extend(atoms);
+    let bytes: Vec<u8> = words.iter().flat_map(|w| w.to_le_bytes()).collect();
+    assert_eq!(got.verdict, Verdict::Accepted(bytes.len() as u32));
+    assert_eq!(got.room, bytes);
+    for name in 0..1025 {
+        let wanted = times.get(&name).map(|t| *t as u32).ok_or(Refusal { number: 21, place: name });
+        assert_eq!(time(&got.room, name), wanted);
+    }
+}
+
+// Whether all atoms of a candidate fit the bits.
+fn small(cand: &[u8]) -> bool {
+    read_candidate(cand).unwrap().iter().all(|a| *a < 20)
+}
+
+#[test]
+fn sound_plans() {
+    let mut random = Random::new(1);
+    let mut counts: BTreeMap<u32, u32> = BTreeMap::new();
+    for _ in 0..20_000 {
+        let text = generating::plan(&mut random);
+        let cand = generating::candidate(&mut random, &text);
+        if small(&cand) {
+            *counts.entry(check(&text, &cand)).or_default() += 1;
+        }
+    }
+    println!("{counts:?}");
+    for number in [0, 8, 9, 10] {
+        assert!(counts[&number] > 500, "{counts:?}");
+    }
+}
+
+#[test]
+fn networks() {
+    let mut random = Random::new(7);
+    let mut longest = 0;
+    let mut counts = [0; 2];
+    for _ in 0..3_000 {
+        let (text, cand) = generating::network(&mut random);
+        let differences = terms(&read_text(&text).unwrap()).unwrap();
+        let atoms = read_candidate(&cand).unwrap();
+        let (names, force) = in_force(&differences, &atoms);
+        let got = judged(&text, &cand);
+        if negative_cycle(&names, &force) {
+            assert_eq!(got.verdict, refused(10, got.cycle.len() as u32));
+            assert!(check_cycle(&text, &cand, &got.cycle), "{:?}", got.cycle);
+            check_wrong_lists(&text, &cand, &got.cycle);
+            longest = longest.max(got.cycle.len());
+            counts[0] += 1;
+        } else {
+            check_table(&got, &names, &atoms, &slow_times(&names, &force));
+            counts[1] += 1;
+        }
+    }
+    println!("{{networks {counts:?}, longest {longest}}}");
+    assert!(longest > 5 && counts.iter().all(|n| *n > 500));
+}
+
+// Lists near a right one that are wrong.
+fn check_wrong_lists(text: &[u8], cand: &[u8], list: &[u32]) {
+    let n = list.len();
+    for i in 1..n {
+        let turned = [&list[i..], &list[..i]].concat();
+        assert!(!check_cycle(text, cand, &turned));
+        assert!(!check_cycle(text, cand, &list[..i]));
+    }
+    assert!(!check_cycle(text, cand, &[list, list].concat()));
+    let atoms = read_candidate(cand).unwrap();
+    let fewer: Vec<u32> = atoms.iter().filter(|a| **a != list[n - 1]).copied().collect();
+    assert!(!check_cycle(text, &generating::candidate_of(&fewer), list));
+}
+
+#[test]
+fn every_candidate_of_some_plans() {
+    let mut random = Random::new(2);
+    for _ in 0..300 {
+        let text = generating::plan(&mut random);
+        for set in 0..256u32 {
+            let atoms: Vec<u32> = (1..=8).filter(|a| set & (1 << (a - 1)) != 0).collect();
+            check(&text, &generating::candidate_of(&atoms));
+        }
+    }
+}
+
+#[test]
+fn damaged_cases_end() {
+    let mut random = Random::new(3);
+    let mut counts: BTreeMap<u32, u32> = BTreeMap::new();
+    for _ in 0..60_000 {
+        let (text, cand) = generating::case(&mut random);
+        let got = judged(&text, &cand);
+        let number = match got.verdict {
+            Verdict::Accepted(_) => 0,
+            Verdict::Refused(r) => r.number,
+        };
+        *counts.entry(number).or_default() += 1;
+        check_against_readers(&text, &cand, got.verdict);
+        if matches!(number, 0 | 8 | 9 | 10) && small_plan(&text) && small(&cand) {
+            check(&text, &cand);
+        }
+    }
+    println!("{counts:?}");
+    for number in [0, 3, 4, 5, 6, 7, 8, 9, 10] {
+        assert!(counts[&number] > 100, "{counts:?}");
+    }
+}
+
+// Whether all atoms of a readable plan fit the bits.
+fn small_plan(text: &[u8]) -> bool {
+    let lines = read_text(text).unwrap();
+    terms(&lines).unwrap().iter().all(|d| d.atom < 20)
+        && lines.iter().all(|l| match &l.statement {
+            Statement::Rule { head, body, .. } => head.iter().all(|a| *a < 20) && body.iter().all(|l| l.atom < 20),
+            _ => true,
+        })
+}
+
+// The verdict against the separate readers' own refusals.
+fn check_against_readers(text: &[u8], cand: &[u8], verdict: Verdict) {
+    let first = read_text(text).and_then(|l| terms(&l)).err().or(read_candidate(cand).err());
+    match first {
+        Some(r) => assert_eq!(verdict, Verdict::Refused(r)),
+        None => assert!(!matches!(verdict, Verdict::Refused(Refusal { number: 1..=7, .. }))),
+    }
+    if let Some(Refusal { number: 3..=5, place }) = first {
+        assert!(place as usize <= text.len());
+        assert_eq!(describe(text), format!("refused {} {place}\n", first.unwrap().number));
+    }
+}
+
+// Refusal 6 and the differences again, by looking back through the lines for every question.
+fn slow_terms(lines: &[Line]) -> Result<Vec<Difference>, u32> {
+    let mut found = Vec::new();
+    for (i, line) in lines.iter().enumerate() {
+        let before = &lines[..i];
+        if !line_is_sound(before, &line.statement) {
+            return Err(line.place);
+        }
+        if let Statement::Theory { .. } = line.statement {
+            found.push(slow_difference(before, line).ok_or(line.place)?);
+        }
+    }
+    Ok(found)
+}
+
+// The statement that defines a term.
+fn term_in(before: &[Line], t: u32) -> Option<&Statement> {
+    let defines = |s: &Statement| matches!(s, Statement::Number { term, .. } | Statement::Symbol { term, .. } | Statement::Compound { term, .. } if *term == t);
+    before.iter().map(|l| &l.statement).find(|s| defines(s))
+}
+
+// The statement that defines an element.
+fn element_in(before: &[Line], e: u32) -> Option<&Statement> {
+    before.iter().map(|l| &l.statement).find(|s| matches!(s, Statement::Element { element, .. } if *element == e))
+}
+
+// Whether a line defines nothing twice and uses nothing undefined.
+fn line_is_sound(before: &[Line], statement: &Statement) -> bool {
+    let has = |t: &u32| term_in(before, *t).is_some();
+    match statement {
+        Statement::Number { term, .. } | Statement::Symbol { term, .. } => !has(term),
+        Statement::Compound { term, base, arguments } => {
+            let base_known = !matches!(base, second::Base::Term(t) if !has(t));
+            !has(term) && base_known && arguments.iter().all(has)
+        }
+        Statement::Element { element, terms, .. } => element_in(before, *element).is_none() && terms.iter().all(has),
+        Statement::Theory { atom: a, name, elements, guard } => {
+            let twice = before.iter().any(|l| matches!(&l.statement, Statement::Theory { atom, .. } if atom == a));
+            let guard_known = guard.is_none_or(|(g, u)| has(&g) && has(&u));
+            !twice && has(name) && guard_known && elements.iter().all(|e| element_in(before, *e).is_some())
+        }
+        _ => true,
+    }
+}
+
+// The bytes of a string term.
+fn string_in(before: &[Line], t: u32) -> Option<Vec<u8>> {
+    match term_in(before, t)? {
+        Statement::Symbol { string, .. } => Some(string.clone()),
+        _ => None,
+    }
+}
+
+// A compound as the bytes of its t and its arguments.
+fn compound_in(before: &[Line], t: u32) -> Option<(Vec<u8>, Vec<u32>)> {
+    match term_in(before, t)? {
+        Statement::Compound { base: second::Base::Term(b), arguments, .. } => Some((string_in(before, *b)?, arguments.clone())),
+        _ => None,
+    }
+}
+
+// A number.
+fn number_in(before: &[Line], t: u32) -> Option<i64> {
+    match term_in(before, t)? {
+        Statement::Number { value, .. } => Some(i64::from(*value)),
+        _ => None,
+    }
+}
+
+// The difference of a theory atom's line, if it is one.
+fn slow_difference(before: &[Line], line: &Line) -> Option<Difference> {
+    let Statement::Theory { atom, name, elements, guard } = &line.statement else { return None };
+    let (g, u) = (*guard)?;
+    let strings_right = string_in(before, *name)? == b"diff" && string_in(before, g)? == b"<=";
+    let Statement::Element { terms, condition, .. } = element_in(before, *elements.first()?)? else { return None };
+    let (sign, sides) = compound_in(before, *terms.first()?)?;
+    let counts_right = elements.len() == 1 && terms.len() == 1 && condition.is_empty() && sides.len() == 2;
+    let bound = number_in(before, u).or_else(|| match compound_in(before, u) {
+        Some((s, a)) if s == b"-" && a.len() == 1 => number_in(before, a[0]).map(|v| -v),
+        _ => None,
+    })?;
+    let right = strings_right && counts_right && sign == b"-";
+    right.then(|| Difference { line: line.place, atom: *atom, x: sides[0], y: sides[1], bound })
+}
+
+#[test]
+fn loose_theories() {
+    let mut random = Random::new(8);
+    let mut counts = [0; 2];
+    for _ in 0..60_000 {
+        let text = if random.once_in(4) { generating::case(&mut random).0 } else { generating::loose(&mut random) };
+        let Ok(lines) = read_text(&text) else { continue };
+        let slow = slow_terms(&lines);
+        counts[usize::from(slow.is_ok())] += 1;
+        assert_eq!(terms(&lines).map_err(|r| (r.number, r.place)), slow.map_err(|place| (6, place)));
+    }
+    println!("{{loose {counts:?}}}");
+    assert!(counts.iter().all(|n| *n > 5_000), "{counts:?}");
+}
+
+// A readable line has one spelling: written again from what was read, it is the same.
+fn written(statement: &Statement) -> Vec<u8> {
+    fn words(front: &str, parts: &[Vec<i64>]) -> Vec<u8> {
+        let all: Vec<String> = parts.concat().iter().map(i64::to_string).collect();
+        [vec![front.to_string()], all].concat().join(" ").into_bytes()
+    }
+    let counted = |v: &[u32]| [vec![v.len() as i64], v.iter().map(|a| i64::from(*a)).collect()].concat();
+    let literals = |v: &[second::Literal]| {
+        let code = |l: &second::Literal| if l.negated { -i64::from(l.atom) } else { i64::from(l.atom) };
+        [vec![v.len() as i64], v.iter().map(code).collect()].concat()
+    };
+    let one = |n: u32| vec![i64::from(n)];
+    match statement {
+        Statement::Rule { choice, head, body } => words("1", &[one(u32::from(*choice)), counted(head), vec![0], literals(body)]),
+        Statement::Output { string, condition } => {
+            [words("4", &[vec![string.len() as i64]]), b" ".to_vec(), string.clone(), words("", &[literals(condition)])].concat()
+        }
+        Statement::Number { term, value } => words("9 0", &[one(*term), vec![i64::from(*value)]]),
+        Statement::Symbol { term, string } => [words("9 1", &[one(*term), vec![string.len() as i64]]), b" ".to_vec(), string.clone()].concat(),
+        Statement::Compound { term, base, arguments } => {
+            let t = match base {
+                second::Base::Tuple => -1,
+                second::Base::Set => -2,
+                second::Base::List => -3,
+                second::Base::Term(t) => i64::from(*t),
+            };
+            words("9 2", &[one(*term), vec![t], counted(arguments)])
+        }
+        Statement::Element { element, terms, condition } => words("9 4", &[one(*element), counted(terms), literals(condition)]),
+        Statement::Theory { atom, name, elements, guard } => match guard {
+            None => words("9 5", &[one(*atom), one(*name), counted(elements)]),
+            Some((g, u)) => words("9 6", &[one(*atom), one(*name), counted(elements), one(*g), one(*u)]),
+        },
+        Statement::Comment { bytes } => [b"10 ".to_vec(), bytes.clone()].concat(),
+    }
+}
+
+#[test]
+fn reading_keeps_every_byte() {
+    let mut random = Random::new(4);
+    let mut read = 0;
+    for _ in 0..40_000 {
+        let (text, cand) = generating::case(&mut random);
+        if let Ok(lines) = read_text(&text) {
+            let again: Vec<Vec<u8>> = lines.iter().map(|l| written(&l.statement)).collect();
+            assert_eq!(generating::text_of(&again), text);
+            assert!(lines.iter().zip(&again).all(|(l, w)| text[l.place as usize..].starts_with(w)));
+            read += 1;
+        }
+        if let Ok(atoms) = read_candidate(&cand) {
+            assert_eq!(generating::candidate_of(&atoms), cand);
+        }
+    }
+    assert!(read > 10_000);
+}
+
+// A text cut at any byte is refused, and at the length if the cut part had no other fault.
+#[test]
+fn cut_texts() {
+    let mut random = Random::new(5);
+    for _ in 0..200 {
+        let text = generating::plan(&mut random);
+        for end in 10..text.len() {
+            let got = read_text(&text[..end]).unwrap_err();
+            let lone_minus = text[end - 1] == b'-' && got.place as usize == end - 1;
+            assert!(got.number == 3 && (got.place as usize == end || lone_minus) || cut_selector(&text, end), "{got:?} {end}");
+        }
+    }
+}
+
+// Whether the cut left a shorter field that is itself wrong (such as -10 cut to -1 is fine, 10 cut to 1 is a rule).
+fn cut_selector(text: &[u8], end: usize) -> bool {
+    text[end].is_ascii_digit() && text[end - 1].is_ascii_digit()
+}
+
+#[test]
+fn long_chains() {
+    for names in [2, 3, 100, 500] {
+        let (text, cand) = generating::chain(names, -1_000_000, None);
+        let got = judged(&text, &cand);
+        assert_eq!(got.verdict, Verdict::Accepted((16 + 8 * names + 4 * (names - 1)) as u32));
+        for i in 0..names as u32 {
+            assert_eq!(time(&got.room, 4 + i), Ok(1_000_000 * i));
+        }
+        let right = 1_000_000 * (names as i64 - 1);
+        if right <= 1_000_000 {
+            let (text, cand) = generating::chain(names, -1_000_000, Some(right));
+            assert!(matches!(judged(&text, &cand).verdict, Verdict::Accepted(_)));
+        }
+        let (text, cand) = generating::chain(names, -1, Some(names as i64 - 1));
+        assert!(matches!(judged(&text, &cand).verdict, Verdict::Accepted(_)));
+        let (text, cand) = generating::chain(names, -1, Some(names as i64 - 2));
+        let got = judged(&text, &cand);
+        assert_eq!(got.verdict, refused(10, names as u32));
+        assert_eq!(got.cycle, (1..=names as u32).collect::<Vec<_>>());
+        assert!(check_cycle(&text, &cand, &got.cycle));
+    }
+    let (text, cand) = generating::rule_chain(2500, true);
+    assert_eq!(verdict(&text, &cand), Verdict::Accepted(16 + 4 * 2500));
+    let (text, cand) = generating::rule_chain(2500, false);
+    assert_eq!(verdict(&text, &cand), refused(9, 1));
+}
+
+// Demand 3: further differences as facts make nothing earlier and keep the other refusals.
+#[test]
+fn further_time_rules() {
+    let mut random = Random::new(6);
+    let mut kept = BTreeMap::new();
+    for _ in 0..20_000 {
+        let text = generating::plan(&mut random);
+        let cand = generating::candidate(&mut random, &text);
+        let Some((new_text, new_cand)) = extended(&mut random, &text, &cand) else { continue };
+        let (old, new) = (judged(&text, &cand), judged(&new_text, &new_cand));
+        let entry = compare(&old, &new, &text);
+        check_unmoved(&old, &new, &new_text);
+        *kept.entry(entry).or_insert(0) += 1;
+    }
+    println!("{kept:?}");
+    assert!(kept.values().all(|n| *n > 50) && kept.len() == 5, "{kept:?}");
+}
+
+// A plan with one more difference atom, also a fact, over old or new names; lines in order, new ones last.
+fn extended(random: &mut Random, text: &[u8], cand: &[u8]) -> Option<(Vec<u8>, Vec<u8>)> {
+    let lines = read_text(text).unwrap();
+    let atoms = read_candidate(cand).unwrap();
+    let mut terms_used: Vec<u32> = Vec::new();
+    let mut elements_used: Vec<u32> = Vec::new();
+    for l in &lines {
+        match &l.statement {
+            Statement::Number { term, .. } | Statement::Symbol { term, .. } | Statement::Compound { term, .. } => terms_used.push(*term),
+            Statement::Element { element, .. } => elements_used.push(*element),
+            _ => (),
+        }
+    }
+    let mut free = (0..1024u32).filter(|t| !terms_used.contains(t));
+    let mut fresh = || free.next();
+    let (diff, minus, at_most) = (fresh()?, fresh()?, fresh()?);
+    let (bound, new_name, term) = (fresh()?, fresh()?, fresh()?);
+    let (old_names, _) = in_force(&terms(&lines).unwrap(), &[]);
+    let names = [old_names, vec![new_name]].concat();
+    let (x, y) = (*random.one_of(&names), *random.one_of(&names));
+    let element = (0..1024u32).find(|e| !elements_used.contains(e))?;
+    let atom = 4000;
+    if atoms.contains(&atom) {
+        return None;
+    }
+    let k = random.from_to(-6, 6);
+    let more = format!("9 1 {diff} 4 diff\n9 1 {minus} 1 -\n9 1 {at_most} 2 <=\n9 0 {bound} {k}\n9 1 {new_name} 3 new\n9 2 {term} {minus} 2 {x} {y}\n9 4 {element} 1 {term} 0\n9 6 {atom} {diff} 1 {element} {at_most} {bound}\n1 0 1 {atom} 0 0\n0\n");
+    let new_text = [&text[..text.len() - 2], more.as_bytes()].concat();
+    let mut new_atoms = atoms;
+    new_atoms.push(atom);
+    new_atoms.sort();
+    Some((new_text, generating::candidate_of(&new_atoms)))
+}
+
+// Where the new rule speaks of old names only and the old times keep it, no time moves.
+fn check_unmoved(old: &Judged, new: &Judged, new_text: &[u8]) {
+    let all = terms(&read_text(new_text).unwrap()).unwrap();
+    let (last, before) = all.split_last().unwrap();
+    let at = |name: u32| time(&old.room, name).map(i64::from);
+    let (Verdict::Accepted(_), Ok(x), Ok(y)) = (old.verdict, at(last.x), at(last.y)) else { return };
+    if x - y <= last.bound {
+        assert!(matches!(new.verdict, Verdict::Accepted(_)));
+        let (names, _) = in_force(before, &[]);
+        assert!(names.iter().all(|n| time(&old.room, *n) == time(&new.room, *n)));
+    }
+}
+
+// Compares the old and the new judging; a word for what was seen.
+fn compare(old: &Judged, new: &Judged, text: &[u8]) -> &'static str {
+    match (old.verdict, new.verdict) {
+        (Verdict::Accepted(_), Verdict::Accepted(_)) => {
+            let (names, _) = in_force(&terms(&read_text(text).unwrap()).unwrap(), &[]);
+            assert!(names.iter().all(|n| time(&old.room, *n).unwrap() <= time(&new.room, *n).unwrap()));
+            "both"
+        }
+        (Verdict::Accepted(_), Verdict::Refused(r)) => {
+            assert_eq!(r.number, 10);
+            "new cycle"
+        }
+        (Verdict::Refused(Refusal { number: 10, .. }), Verdict::Refused(r)) => {
+            assert_eq!(r.number, 10);
+            "old cycle"
+        }
+        (Verdict::Refused(a), b) => {
+            assert_eq!(Verdict::Refused(a), b);
+            if a.number == 8 { "broken" } else { "unfounded" }
+        }
+    }
+}
