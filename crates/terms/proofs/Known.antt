@@ -1,0 +1,143 @@
+-- What was defined on the way is what the lines before define: a line that is not faulty defines no number twice.
+use Prim.Native.Nat.{ℕ}
+use mathlib.Core.Path.{_≡_, refl, sym, _∙_, fun-ext}
+use mathlib.Core.List.{List, [], _∷_, _++_}
+use mathlib.Core.Bool.{Bool, true, false, _||_}
+use borrow.Author.Tests.{eqb-true}
+use lib.Dec.{eqb}
+use Rattle.faults.specs.Answer.{pick, refused}
+use Rattle.aspif.specs.Statements.{Line}
+use Rattle.terms.specs.Says.{Term, Element, Part, defines, collects, states, other, partOf, Found, found, nothing, orElse, termIn, term, elementIn, elementAt}
+use Rattle.terms.specs.Terms.{known, statesIn, taken, defined, faulty, statedBy, more, differencesFrom, differences}
+use Rattle.terms.specs.Tables.{at, add, walk, termAt, elementOf, lookIn, elementsIn, takenIn, envOf, Blank}
+
+-- ---- more lines
+
+or-else-assoc : {A : Type 0} (a b c : Found A) → orElse (orElse a b) c ≡ orElse a (orElse b c)
+or-else-assoc (found a) b c = refl
+or-else-assoc nothing b c = refl
+
+-- what is defined in the first lines, or else in the others
+pub term-append : (xs ys : List Line) (u : ℕ) → term (xs ++ ys) u ≡ orElse (term xs u) (term ys u)
+unfolding term
+term-append [] ys u = refl
+term-append (l ∷ xs) ys u = rw (term-append xs ys u) (sym (or-else-assoc (termIn u (partOf (l .says))) (term xs u) (term ys u)))
+
+pub element-append : (xs ys : List Line) (v : ℕ) → elementAt (xs ++ ys) v ≡ orElse (elementAt xs v) (elementAt ys v)
+unfolding elementAt
+element-append [] ys v = refl
+element-append (l ∷ xs) ys v = rw (element-append xs ys v) (sym (or-else-assoc (elementIn v (partOf (l .says))) (elementAt xs v) (elementAt ys v)))
+
+or-assoc : (a b c : Bool) → (a || b) || c ≡ a || (b || c)
+or-assoc true b c = refl
+or-assoc false b c = refl
+
+pub taken-append : (xs ys : List Line) (a : ℕ) → taken (xs ++ ys) a ≡ taken xs a || taken ys a
+unfolding taken
+taken-append [] ys a = refl
+taken-append (l ∷ xs) ys a = rw (taken-append xs ys a) (sym (or-assoc (statesIn a (partOf (l .says))) (taken xs a) (taken ys a)))
+
+-- ---- one more line
+
+or-nothing : {A : Type 0} (a : Found A) → orElse a nothing ≡ a
+or-nothing (found a) = refl
+or-nothing nothing = refl
+
+or-false : (a : Bool) → a || false ≡ a
+or-false true = refl
+or-false false = refl
+
+or-true : (a : Bool) → a || true ≡ true
+or-true true = refl
+or-true false = refl
+
+undefined : {A : Type 0} (a : Found A) → defined a ≡ false → a ≡ nothing
+undefined (found a) h = let z : _≡_ {A = Bool} true false = h in (cc)
+undefined nothing h = refl
+
+first-false : (a b : Bool) → a || b ≡ false → a ≡ false
+first-false true b h = h
+first-false false b h = refl
+
+module _ (before : List Line) (l : Line) where
+  terms-kept : ((u : ℕ) → term (l ∷ []) u ≡ nothing) → term (before ++ (l ∷ [])) ≡ term before
+  terms-kept h = fun-ext (λ u. term-append before (l ∷ []) u ∙ rw (h u) (or-nothing (term before u)))
+
+  elements-kept : ((v : ℕ) → elementAt (l ∷ []) v ≡ nothing) → elementAt (before ++ (l ∷ [])) ≡ elementAt before
+  elements-kept h = fun-ext (λ v. element-append before (l ∷ []) v ∙ rw (h v) (or-nothing (elementAt before v)))
+
+  taken-kept : ((a : ℕ) → taken (l ∷ []) a ≡ false) → taken (before ++ (l ∷ [])) ≡ taken before
+  taken-kept h = fun-ext (λ a. taken-append before (l ∷ []) a ∙ rw (h a) (or-false (taken before a)))
+
+  -- a line that defines a term
+  terms-more : (u : ℕ) (x : Term) → ((v : ℕ) → term (l ∷ []) v ≡ pick (eqb v u) (found x) nothing) → term before u ≡ nothing
+      → term (before ++ (l ∷ [])) ≡ at (term before) u (found x)
+  terms-more u x h n = fun-ext (λ v. term-append before (l ∷ []) v ∙ rw (h v) (go v (eqb v u) refl))
+    where
+      go : (v : ℕ) (b : Bool) → eqb v u ≡ b → orElse (term before v) (pick b (found x) nothing) ≡ pick b (found x) (term before v)
+      go v true q = rw (eqb-true v u q, n)
+      go v false q = or-nothing (term before v)
+
+  elements-more : (u : ℕ) (x : Element) → ((v : ℕ) → elementAt (l ∷ []) v ≡ pick (eqb v u) (found x) nothing) → elementAt before u ≡ nothing
+      → elementAt (before ++ (l ∷ [])) ≡ at (elementAt before) u (found x)
+  elements-more u x h n = fun-ext (λ v. element-append before (l ∷ []) v ∙ rw (h v) (go v (eqb v u) refl))
+    where
+      go : (v : ℕ) (b : Bool) → eqb v u ≡ b → orElse (elementAt before v) (pick b (found x) nothing) ≡ pick b (found x) (elementAt before v)
+      go v true q = rw (eqb-true v u q, n)
+      go v false q = or-nothing (elementAt before v)
+
+  taken-more : (a : ℕ) → ((v : ℕ) → taken (l ∷ []) v ≡ eqb v a) → taken (before ++ (l ∷ [])) ≡ at (taken before) a true
+  taken-more a h = fun-ext (λ v. taken-append before (l ∷ []) v ∙ rw (h v) (go v (eqb v a)))
+    where
+      go : (v : ℕ) (b : Bool) → taken before v || b ≡ pick b true (taken before v)
+      go v true = or-true (taken before v)
+      go v false = or-false (taken before v)
+
+  -- a line that is not faulty adds what it says
+  pub add-known : (s : Part) → partOf (l .says) ≡ s → faulty (known before) s ≡ false → add (known before) s ≡ known (before ++ (l ∷ []))
+  unfolding add faulty term elementAt taken
+  add-known (defines u x) e h =
+      rw (terms-more u x (λ v. rw e (or-nothing _)) (undefined (term before u) (first-false _ _ h)), elements-kept (λ v. rw e), taken-kept (λ a. rw e))
+  add-known (collects v x) e h =
+      rw (terms-kept (λ u. rw e), elements-more v x (λ u. rw e (or-nothing _)) (undefined (elementAt before v) (first-false _ _ h)), taken-kept (λ a. rw e))
+  add-known (states a p vs g) e h = rw (terms-kept (λ u. rw e), elements-kept (λ v. rw e), taken-more a (λ v. rw e (or-false _)))
+  add-known other e h = rw (terms-kept (λ u. rw e), elements-kept (λ v. rw e), taken-kept (λ a. rw e))
+
+-- ---- the walk
+
+-- the walk with what the lines before define
+pub walk-is : (before ls : List Line) → walk (known before) ls ≡ differencesFrom before ls
+unfolding walk differencesFrom
+walk-is before [] = refl
+walk-is before (l ∷ ls) = go (walk-is (before ++ (l ∷ [])) ls) (faulty (known before) (partOf (l .says))) refl
+  where
+    go : walk (known (before ++ (l ∷ []))) ls ≡ differencesFrom (before ++ (l ∷ [])) ls → (b : Bool) → faulty (known before) (partOf (l .says)) ≡ b
+        → pick b (refused 6 (l .place)) (more (statedBy (known before) (partOf (l .says))) (walk (add (known before) (partOf (l .says))) ls))
+        ≡ pick b (refused 6 (l .place)) (more (statedBy (known before) (partOf (l .says))) (differencesFrom (before ++ (l ∷ [])) ls))
+    go r true q = refl
+    go r false q = rw (add-known before l (partOf (l .says)) refl q, r)
+
+terms-none : (t terms : List ℕ) → Blank terms → (u : ℕ) → lookIn t terms u ≡ term [] u
+unfolding lookIn termAt term
+terms-none t terms a u = rw (a .zero-at u)
+
+elements-none : (t els : List ℕ) → Blank els → (v : ℕ) → elementsIn t els v ≡ elementAt [] v
+unfolding elementsIn elementOf elementAt
+elements-none t els a v = rw (a .zero-at v)
+
+seen-none : (seen : List ℕ) → Blank seen → (a : ℕ) → takenIn seen a ≡ taken [] a
+unfolding takenIn taken
+seen-none seen c a = rw (c .zero-at a)
+
+-- blank tables stand for no lines
+pub blank-known : (t terms els seen : List ℕ) → Blank terms → Blank els → Blank seen → envOf t terms els seen ≡ known []
+unfolding envOf
+blank-known t terms els seen a b c =
+    let x : lookIn t terms ≡ term [] = fun-ext (terms-none t terms a) in
+    let y : elementsIn t els ≡ elementAt [] = fun-ext (elements-none t els b) in
+    let z : takenIn seen ≡ taken [] = fun-ext (seen-none seen c) in
+    rw (x, y, z)
+
+pub start-is : (t terms els seen : List ℕ) (ls : List Line) → Blank terms → Blank els → Blank seen → walk (envOf t terms els seen) ls ≡ differences ls
+unfolding differences
+start-is t terms els seen ls a b c = rw (blank-known t terms els seen a b c) (walk-is [] ls)

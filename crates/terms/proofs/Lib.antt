@@ -1,0 +1,10 @@
+-- General laws.
+pub mod Signs
+pub mod OnTape
+pub mod Strings
+pub mod Reading
+pub mod Uses
+pub mod Turns
+pub mod Parts
+pub mod Known
+pub mod Walks

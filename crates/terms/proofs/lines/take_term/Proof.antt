@@ -1,0 +1,48 @@
+-- `take_term`: a faulty line is refused; entering another adds what it says.
+use mathlib.Core.Path.{sym, _∙_}
+use native.Mathlib.Omega.{arith}
+use Rattle.terms.proofs.Turns.{turn-stops, counted-stops, term-goes}
+use borrow.Author.Needs.{needs}
+use Rattle.terms.proofs.lines.take_term.Statement.{statement}
+use Rattle.terms.proofs.lines.take_term.Tie as tie
+
+bad-term-requires : tie.Need-bad-term-requires
+bad-term-requires c κs = search needs
+
+refuse-requires : tie.Need-refuse-requires
+refuse-requires c κs = search needs
+
+same-length : tie.Need-same-length
+same-length c = search needs
+
+returns : tie.Need-returns
+returns c = (λ els seen f ls. turn-stops _ f _ _ _ ls _ _ (c .refuse .ensures) (sym (c .before .if1 .taken) ∙ c .before .before .bad-term .ensures els seen), λ seen h. counted-stops (c .refuse .result) _ _ seen (c .refuse .ensures))
+
+word-at-requires : tie.Need-word-at-requires
+word-at-requires c κs = search needs
+
+add-mark : tie.Need-add-mark
+add-mark c = search needs
+
+put-term-requires : tie.Need-put-term-requires
+put-term-requires c κs = search needs
+
+same-length-2 : tie.Need-same-length-2
+same-length-2 c = search needs
+
+returns-2 : tie.Need-returns-2
+returns-2 c = (λ els seen f ls. term-goes _ f ls _ _ els seen _ _ (c .before .before .before .before .word-at .ensures .0) _ (sym (c .before .before .before .before .before .if1 .left) ∙ c .before .before .before .before .before .before .bad-term .ensures els seen) (omega (arith, c .before .before .before .before .word-at .ensures .0, c .before .before .before .before .before .before .before .before .before .before .pre .1)) (c .before .before .put-term .ensures), λ seen h. h)
+
+pub take-term-spec : {M : Type 1} → statement M
+take-term-spec =
+    tie.close
+    (tie.spec
+    bad-term-requires
+    refuse-requires
+    same-length
+    returns
+    word-at-requires
+    add-mark
+    put-term-requires
+    same-length-2
+    returns-2)

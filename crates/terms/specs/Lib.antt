@@ -1,0 +1,5 @@
+-- The definitions that the contracts cite.
+pub mod Says
+pub mod Terms
+pub mod Tables
+pub mod Values

@@ -1,0 +1,177 @@
+-- What difference atoms say, over the lines of a plan: document 01, 'Difference atoms' and 'Meaning'. Assumes nothing.
+use mathlib.Core.Path.{_≡_}
+use mathlib.Core.Bool.{Bool, true, false, _||_}
+use mathlib.Core.List.{List, [], _∷_}
+use mathlib.Core.Logic.{_⊎_}
+use Prim.Native.Nat.{ℕ, _<_}
+use lib.Dec.{eqb}
+use lib.IntN.{ℤ, pos, negℤ}
+use Rattle.faults.specs.Answer.{pick}
+use Rattle.aspif.specs.Statements.{Literal, Head, empty, single, choice, Statement, rule, output, numeric, string, compound, element, theory, guarded, comment, Line}
+use Rattle.faults.specs.Marks.{among}
+use Rattle.diffs.specs.Diff.{Diff, All}
+
+-- ---- what a line is to terms and theory atoms
+
+-- what a term number stands for; a compound's t is a term number, or -1, -2, -3 (tuple, set, list)
+pub data Term : Type 0 where
+  num : ℤ → Term
+  str : (bytes : List ℕ) → Term
+  comp : (t : ℤ) → (arguments : List ℕ) → Term
+
+-- what an element number stands for
+pub data Element : Type 0 where
+  elem : (terms : List ℕ) → (condition : List Literal) → Element
+
+-- the operator and the bound of a theory atom, where it has them
+pub data Guard : Type 0 where
+  unguarded : Guard
+  guard : (operator bound : ℕ) → Guard
+
+-- a line defines a term, or an element, or states a theory atom, or does none of these
+pub data Part : Type 0 where
+  defines : (term : ℕ) → Term → Part
+  collects : (element : ℕ) → Element → Part
+  states : (atom name : ℕ) → (elements : List ℕ) → Guard → Part
+  other : Part
+
+abbrev pub partOf : Statement → Part
+partOf (rule h b) = other
+partOf (output bs b) = other
+partOf (numeric u w) = defines u (num w)
+partOf (string u bs) = defines u (str bs)
+partOf (compound u t us) = defines u (comp t us)
+partOf (element v us b) = collects v (elem us b)
+partOf (theory a p vs) = states a p vs unguarded
+partOf (guarded a p vs g u) = states a p vs (guard g u)
+partOf (comment bs) = other
+
+-- ---- what the lines define
+
+-- something, or nothing
+pub data Found (A : Type 0) : Type 0 where
+  found : A → Found A
+  nothing : Found A
+
+-- the first, or else the second
+abbrev pub orElse : {A : Type 0} → Found A → Found A → Found A
+orElse (found a) b = found a
+orElse nothing b = b
+
+abbrev pub termIn : ℕ → Part → Found Term
+termIn u (defines v t) = pick (eqb u v) (found t) nothing
+termIn u (collects v e) = nothing
+termIn u (states a p vs g) = nothing
+termIn u other = nothing
+
+-- what the term number u stands for
+unfoldable pub term : List Line → ℕ → Found Term
+term [] u = nothing
+term (l ∷ ls) u = orElse (termIn u (partOf (l .says))) (term ls u)
+
+abbrev pub elementIn : ℕ → Part → Found Element
+elementIn w (defines u t) = nothing
+elementIn w (collects v e) = pick (eqb w v) (found e) nothing
+elementIn w (states a p vs g) = nothing
+elementIn w other = nothing
+
+-- what the element number v stands for
+unfoldable pub elementAt : List Line → ℕ → Found Element
+elementAt [] v = nothing
+elementAt (l ∷ ls) v = orElse (elementIn v (partOf (l .says))) (elementAt ls v)
+
+-- ---- differences
+
+-- the bytes of `diff`, `-` and `<=`
+abbrev pub diffWord : List ℕ
+diffWord = 100 ∷ 105 ∷ 102 ∷ 102 ∷ []
+
+abbrev pub minus : List ℕ
+minus = 45 ∷ []
+
+abbrev pub atMost : List ℕ
+atMost = 60 ∷ 61 ∷ []
+
+-- k is the bound that the term u gives: a numeric term, or `-` with one numeric argument, then that number negated
+pub data Bound (ls : List Line) (u : ℕ) (k : ℤ) : Type 0 where
+  plain : term ls u ≡ found (num k) → Bound ls u k
+  negated : (t n : ℕ) (j : ℤ)
+      → term ls u ≡ found (comp (pos t) (n ∷ [])) → term ls t ≡ found (str minus) → term ls n ≡ found (num j) → k ≡ negℤ j
+      → Bound ls u k
+
+-- name p, elements vs, operator g and bound u are the difference d
+pub record Difference (ls : List Line) (p : ℕ) (vs : List ℕ) (g u : ℕ) (d : Diff) : Type 0 where
+  pub named : term ls p ≡ found (str diffWord)
+  pub v : ℕ
+  pub one : vs ≡ v ∷ []
+  pub w : ℕ
+  pub inside : elementAt ls v ≡ found (elem (w ∷ []) [])
+  pub t : ℕ
+  pub pair : term ls w ≡ found (comp (pos t) (d .x ∷ d .y ∷ []))
+  pub sign : term ls t ≡ found (str minus)
+  pub order : term ls g ≡ found (str atMost)
+  pub bound : Bound ls u (d .k)
+
+abbrev pub SaysIn : List Line → ℕ → Diff → Part → Type 0
+SaysIn ls a d (defines u t) = ⊥
+SaysIn ls a d (collects v e) = ⊥
+SaysIn ls a d (states b p vs unguarded) = ⊥
+SaysIn ls a d (states b p vs (guard g u)) = (b ≡ a) × Difference ls p vs g u d
+SaysIn ls a d other = ⊥
+
+-- P holds of some member
+abbrev pub Some : {A : Type 0} → (A → Type 0) → List A → Type 0
+Some P [] = ⊥
+Some P (a ∷ l) = P a ⊎ Some P l
+
+-- the theory atom a says d
+abbrev pub Says : List Line → ℕ → Diff → Type 0
+Says ls a d = Some (λ (l : Line). SaysIn ls a d (partOf (l .says))) ls
+
+-- ---- names
+
+-- n is a name: it stands as x or y in a difference atom, whether that atom holds or not
+pub record Name (ls : List Line) (n : ℕ) : Type 0 where
+  pub atom : ℕ
+  pub diff : Diff
+  pub says : Says ls atom diff
+  pub side : (diff .x ≡ n) ⊎ (diff .y ≡ n)
+
+abbrev pub Ascending : List ℕ → Type 0
+Ascending [] = Unit {0}
+Ascending (n ∷ ns) = All (λ m. n < m) ns × Ascending ns
+
+-- ns are the names, strictly ascending
+pub record Names (ls : List Line) (ns : List ℕ) : Type 0 where
+  pub ascending : Ascending ns
+  pub all : (n : ℕ) → Name ls n → among n ns ≡ true
+  pub only : All (Name ls) ns
+
+-- ---- external atoms
+
+abbrev pub inHead : ℕ → Head → Bool
+inHead a empty = false
+inHead a (single b) = eqb a b
+inHead a (choice bs) = among a bs
+
+abbrev pub heads : ℕ → Statement → Bool
+heads a (rule h b) = inHead a h
+heads a (output bs b) = false
+heads a (numeric u w) = false
+heads a (string u bs) = false
+heads a (compound u t us) = false
+heads a (element v us b) = false
+heads a (theory c p vs) = false
+heads a (guarded c p vs g u) = false
+heads a (comment bs) = false
+
+-- a stands in the head of some rule, choice rules included
+unfoldable pub headed : List Line → ℕ → Bool
+headed [] a = false
+headed (l ∷ ls) a = heads a (l .says) || headed ls a
+
+-- a is external: a difference atom that stands in no rule head
+pub record External (ls : List Line) (a : ℕ) : Type 0 where
+  pub diff : Diff
+  pub says : Says ls a diff
+  pub headless : headed ls a ≡ false

@@ -1,0 +1,193 @@
+-- Refusal 6: document 01, 'Difference atoms'. Lines are taken in order, each with what the lines before it define. It can be run. Assumes nothing.
+use Prim.Native.Nat.{ℕ}
+use mathlib.Core.List.{List, [], _∷_, _++_}
+use mathlib.Core.Bool.{Bool, true, false, _&&_, _||_, not}
+use lib.Dec.{eqb}
+use lib.IntN.{ℤ, pos, negsuc, negℤ}
+use Rattle.faults.specs.Answer.{Answer, got, refused, mapped, pick}
+use Rattle.aspif.specs.Statements.{Line}
+use Rattle.diffs.specs.Diff.{Diff}
+use Rattle.terms.specs.Says.{Term, num, str, comp, Element, elem, Guard, unguarded, guard, Part, defines, collects, states, other, partOf, Found, found, nothing, term, elementAt, diffWord, minus, atMost}
+
+-- ---- what lines have defined and stated
+
+abbrev pub statesIn : ℕ → Part → Bool
+statesIn a (defines u t) = false
+statesIn a (collects v e) = false
+statesIn a (states b p vs g) = eqb a b
+statesIn a other = false
+
+-- the atom a has a theory atom statement
+unfoldable pub taken : List Line → ℕ → Bool
+taken [] a = false
+taken (l ∷ ls) a = statesIn a (partOf (l .says)) || taken ls a
+
+pub record Env : Type 0 where
+  pub terms : ℕ → Found Term
+  pub elements : ℕ → Found Element
+  pub taken : ℕ → Bool
+
+abbrev pub known : List Line → Env
+known ls = record { terms = term ls; elements = elementAt ls; taken = taken ls }
+
+abbrev pub defined : {A : Type 0} → Found A → Bool
+defined (found a) = true
+defined nothing = false
+
+unfoldable pub allDefined : {A : Type 0} → (ℕ → Found A) → List ℕ → Bool
+allDefined look [] = true
+allDefined look (u ∷ us) = defined (look u) && allDefined look us
+
+-- ---- which difference a theory atom states
+
+unfoldable pub sameBytes : List ℕ → List ℕ → Bool
+sameBytes [] [] = true
+sameBytes [] (b ∷ bs) = false
+sameBytes (a ∷ s) [] = false
+sameBytes (a ∷ s) (b ∷ bs) = eqb a b && sameBytes s bs
+
+unfoldable pub isString : List ℕ → Found Term → Bool
+isString l nothing = false
+isString l (found (num k)) = false
+isString l (found (str s)) = sameBytes s l
+isString l (found (comp t us)) = false
+
+-- a compound's t is the string `-`
+unfoldable pub isMinus : (ℕ → Found Term) → ℤ → Bool
+isMinus look (pos t) = isString minus (look t)
+isMinus look (negsuc t) = false
+
+unfoldable pub opposite : Found Term → Found ℤ
+opposite nothing = nothing
+opposite (found (num k)) = found (negℤ k)
+opposite (found (str s)) = nothing
+opposite (found (comp t us)) = nothing
+
+-- a numeric term, or a compound of `-` with one numeric argument
+unfoldable pub boundOf : (ℕ → Found Term) → Found Term → Found ℤ
+boundOf look nothing = nothing
+boundOf look (found (num k)) = found k
+boundOf look (found (str s)) = nothing
+boundOf look (found (comp t [])) = nothing
+boundOf look (found (comp t (n ∷ []))) = pick (isMinus look t) (opposite (look n)) nothing
+boundOf look (found (comp t (n ∷ m ∷ us))) = nothing
+
+pub record Pair : Type 0 where
+  pub x : ℕ
+  pub y : ℕ
+
+-- a compound of `-` with two arguments
+unfoldable pub pairOf : (ℕ → Found Term) → Found Term → Found Pair
+pairOf look nothing = nothing
+pairOf look (found (num k)) = nothing
+pairOf look (found (str s)) = nothing
+pairOf look (found (comp t [])) = nothing
+pairOf look (found (comp t (x ∷ []))) = nothing
+pairOf look (found (comp t (x ∷ y ∷ []))) = pick (isMinus look t) (found (record { x = x; y = y })) nothing
+pairOf look (found (comp t (x ∷ y ∷ z ∷ us))) = nothing
+
+-- an element with one term, which is such a compound, and no condition
+unfoldable pub pairIn : (ℕ → Found Term) → Found Element → Found Pair
+pairIn look nothing = nothing
+pairIn look (found (elem [] ls)) = nothing
+pairIn look (found (elem (w ∷ []) [])) = pairOf look (look w)
+pairIn look (found (elem (w ∷ []) (l ∷ ls))) = nothing
+pairIn look (found (elem (w ∷ u ∷ us) ls)) = nothing
+
+abbrev pub joined : Found Pair → Found ℤ → Found Diff
+joined (found p) (found k) = found (record { x = p .x; y = p .y; k = k })
+joined (found p) nothing = nothing
+joined nothing b = nothing
+
+-- the difference of name p, elements vs, and operator and bound
+unfoldable pub differenceOf : (ℕ → Found Term) → (ℕ → Found Element) → (p : ℕ) → List ℕ → Guard → Found Diff
+differenceOf look els p [] g = nothing
+differenceOf look els p (v ∷ w ∷ vs) g = nothing
+differenceOf look els p (v ∷ []) unguarded = nothing
+differenceOf look els p (v ∷ []) (guard g u) =
+    pick (isString diffWord (look p))
+    (pick (isString atMost (look g)) (joined (pairIn look (els v)) (boundOf look (look u))) nothing)
+    nothing
+
+-- ---- the four tests
+
+-- a term or element number is defined twice
+abbrev pub twice : Env → Part → Bool
+twice env (defines u t) = defined (env .terms u)
+twice env (collects v e) = defined (env .elements v)
+twice env (states a p vs g) = false
+twice env other = false
+
+abbrev pub functorKnown : (ℕ → Found Term) → ℤ → Bool
+functorKnown look (pos t) = defined (look t)
+functorKnown look (negsuc t) = true
+
+abbrev pub termUses : (ℕ → Found Term) → Term → Bool
+termUses look (num k) = true
+termUses look (str s) = true
+termUses look (comp t us) = functorKnown look t && allDefined look us
+
+abbrev pub elementUses : (ℕ → Found Term) → Element → Bool
+elementUses look (elem us ls) = allDefined look us
+
+abbrev pub guardUses : (ℕ → Found Term) → Guard → Bool
+guardUses look unguarded = true
+guardUses look (guard g u) = defined (look g) && defined (look u)
+
+-- a term or element is used that no earlier line defines: t, arguments; an element's terms; p, elements, g, u
+abbrev pub undefinedUse : Env → Part → Bool
+undefinedUse env (defines u t) = not (termUses (env .terms) t)
+undefinedUse env (collects v e) = not (elementUses (env .terms) e)
+undefinedUse env (states a p vs g) =
+    not (defined (env .terms p) && (allDefined (env .elements) vs && guardUses (env .terms) g))
+undefinedUse env other = false
+
+-- an atom has a second theory atom statement
+abbrev pub second : Env → Part → Bool
+second env (defines u t) = false
+second env (collects v e) = false
+second env (states a p vs g) = env .taken a
+second env other = false
+
+-- a theory atom isn't a difference
+abbrev pub notDifference : Env → Part → Bool
+notDifference env (defines u t) = false
+notDifference env (collects v e) = false
+notDifference env (states a p vs g) = not (defined (differenceOf (env .terms) (env .elements) p vs g))
+notDifference env other = false
+
+unfoldable pub faulty : Env → Part → Bool
+faulty env s = twice env s || (undefinedUse env s || (second env s || notDifference env s))
+
+-- ---- the differences of a text
+
+-- an atom, and the difference that it says
+pub record Stated : Type 0 where
+  pub atom : ℕ
+  pub says : Diff
+
+abbrev pub statedAs : ℕ → Found Diff → Found Stated
+statedAs a (found d) = found (record { atom = a; says = d })
+statedAs a nothing = nothing
+
+abbrev pub statedBy : Env → Part → Found Stated
+statedBy env (defines u t) = nothing
+statedBy env (collects v e) = nothing
+statedBy env (states a p vs g) = statedAs a (differenceOf (env .terms) (env .elements) p vs g)
+statedBy env other = nothing
+
+abbrev pub more : Found Stated → Answer (List Stated) → Answer (List Stated)
+more (found d) r = mapped (λ (ds : List Stated). d ∷ ds) r
+more nothing r = r
+
+-- of the lines ls, behind the lines before
+unfoldable pub differencesFrom : (before ls : List Line) → Answer (List Stated)
+differencesFrom before [] = got []
+differencesFrom before (l ∷ ls) =
+    pick (faulty (known before) (partOf (l .says)))
+    (refused 6 (l .place))
+    (more (statedBy (known before) (partOf (l .says))) (differencesFrom (before ++ (l ∷ [])) ls))
+
+-- the differences that the lines state, in order; or 6 at the first line that is faulty
+unfoldable pub differences : List Line → Answer (List Stated)
+differences ls = differencesFrom [] ls
