@@ -2,6 +2,7 @@
 //! decided points alone. It shares no code with any other implementation.
 
 pub mod candidate;
+pub mod container;
 pub mod describing;
 pub mod differences;
 pub mod fields;
@@ -13,6 +14,7 @@ pub mod reading;
 pub mod refusal;
 pub mod times;
 pub mod timetable;
+pub mod vectors;
 
 pub use candidate::read_candidate;
 pub use describing::{describe, describe_candidate};

@@ -1,7 +1,7 @@
 //! The program: judges two files, or prints what reading one gives.
 
-use second::generating;
 use second::random::Random;
+use second::{container, generating, vectors};
 use std::io::Write;
 
 // The bytes of a file; none if it can't be opened.
@@ -16,9 +16,11 @@ fn answer(arguments: &[&str]) -> String {
         ["--candidate", file] => second::describe_candidate(&bytes_of(file)),
         ["--check", plan, cand, list @ ..] => check(plan, cand, list),
         ["--generate", dir, seed, count] => generate(dir, seed, count),
+        ["--vectors", dir] => write_vectors(dir),
+        ["--run-vectors", dir] => run_vectors(dir),
         [plan, cand] => second::report(&bytes_of(plan), &bytes_of(cand)),
         [] => second::report(&bytes_of("plan.aspif"), &bytes_of("plan.cand")),
-        _ => String::from("usage: second [PLAN CAND | --read FILE | --candidate FILE | --check PLAN CAND ATOM.. | --generate DIR SEED COUNT]\n"),
+        _ => String::from("usage: second [PLAN CAND | --read FILE | --candidate FILE | --check PLAN CAND ATOM.. | --generate DIR SEED COUNT | --vectors DIR | --run-vectors DIR]\n"),
     }
 }
 
@@ -44,6 +46,23 @@ fn generate(dir: &str, seed: &str, count: &str) -> String {
         }
     }
     format!("wrote {count}\n")
+}
+
+// Writes the reader's vectors into a directory.
+fn write_vectors(dir: &str) -> String {
+    let (texts, candidates) = (vectors::texts(), vectors::candidates());
+    let wrote = std::fs::write(format!("{dir}/texts"), container::write(&texts))
+        .and_then(|_| std::fs::write(format!("{dir}/candidates"), container::write(&candidates)));
+    match wrote {
+        Ok(()) => format!("wrote {} {}\n", texts.len(), candidates.len()),
+        Err(_) => String::from("can't write there\n"),
+    }
+}
+
+// What reading gives for the vectors of a directory.
+fn run_vectors(dir: &str) -> String {
+    let cases = |name: &str| container::read(&bytes_of(&format!("{dir}/{name}")));
+    vectors::run(&cases("texts"), &cases("candidates"))
 }
 
 // Prints the answer.

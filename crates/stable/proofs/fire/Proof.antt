@@ -1,0 +1,80 @@
+-- `fire`: a false body adds nothing, a true one the heads in the reduct. Assumes nothing.
+use native.Mathlib.Omega.{arith}
+use borrow.Author.Needs.{needs}
+use borrow.Author.Tests.{not-true, not-false}
+use Rattle.stable.proofs.Heads.{heads-inside, plain-small, choice-small, literals-at, idle, chosen, plain}
+use Rattle.stable.proofs.fire.Statement.{statement}
+use Rattle.stable.proofs.fire.Tie as tie
+
+add-word-at : tie.Need-add-word-at
+add-word-at c = omega (arith, c .before .before .before .pre .0 .inside)
+
+word-at-requires : tie.Need-word-at-requires
+word-at-requires c κs = search needs
+
+add-h : tie.Need-add-h
+add-h c = omega (arith, c .before .before .before .before .pre .0 .inside)
+
+add-b : tie.Need-add-b
+add-b c = omega (arith, c .before .before .before .before .pre .0 .inside)
+
+add-b-2 : tie.Need-add-b-2
+add-b-2 c = omega (arith, c .before .before .before .before .pre .0 .inside, c .word-at .ensures .0)
+
+body-true-requires : tie.Need-body-true-requires
+body-true-requires c κs = (literals-at (c .before .before .before .before .before .pre .0) (c .before .word-at .ensures .0), (c .before .before .before .before .before .pre .1 .0, c .before .before .before .before .before .pre .1 .1))
+
+same-length : tie.Need-same-length
+same-length c = search needs
+
+returns : tie.Need-returns
+returns c = idle (c .before .before .before .before .before .before .before .pre .0) (c .before .before .before .word-at .ensures .0) (c .before .before .before .before .before .before .before .args .x .now) (c .before .before .before .before .before .before .before .args .found .now) (c .before .body-true .ensures) (not-true _ (c .if1 .taken))
+
+add-if2 : tie.Need-add-if2
+add-if2 c = omega (arith, c .before .before .before .before .before .before .before .pre .0 .inside)
+
+mul-if2 : tie.Need-mul-if2
+mul-if2 c = omega (arith, c .before .before .before .before .before .before .before .pre .0 .inside)
+
+shared-slice-read-if2 : tie.Need-shared-slice-read-if2
+shared-slice-read-if2 c = omega (arith, c .before .before .before .before .before .before .before .before .pre .0 .inside)
+
+add-chosen-requires : tie.Need-add-chosen-requires
+add-chosen-requires c κs = (heads-inside (c .before .before .before .before .before .before .before .before .before .before .pre .0), (choice-small (c .before .before .before .before .before .before .before .before .before .before .pre .0) (c .before .if2 .taken), (c .before .before .before .before .before .before .before .before .before .before .pre .1 .0, c .before .before .before .before .before .before .before .before .before .before .pre .1 .1)))
+
+same-length-2 : tie.Need-same-length-2
+same-length-2 c = search needs
+
+returns-2 : tie.Need-returns-2
+returns-2 c = chosen (c .before .before .before .before .before .before .before .before .before .before .before .before .before .pre .0) (c .before .before .before .before .before .before .before .before .before .word-at .ensures .0) (c .before .before .before .before .before .before .before .before .before .before .before .before .before .args .x .now) (c .before .before .before .before .before .before .before .before .before .before .before .before .before .args .found .now) (c .before .before .before .before .before .before .before .body-true .ensures) (not-false _ (c .before .before .before .before .before .before .if1 .left)) (c .before .before .before .before .if2 .taken) (c .before .before .add-chosen .ensures)
+
+add-single-requires : tie.Need-add-single-requires
+add-single-requires c κs = (heads-inside (c .before .before .before .before .before .before .before .before .before .before .pre .0), (plain-small (c .before .before .before .before .before .before .before .before .before .before .pre .0) (c .before .if2 .left), c .before .before .before .before .before .before .before .before .before .before .pre .1 .1))
+
+same-length-3 : tie.Need-same-length-3
+same-length-3 c = search needs
+
+returns-3 : tie.Need-returns-3
+returns-3 c = plain (c .before .before .before .before .before .before .before .before .before .before .before .before .before .pre .0) (c .before .before .before .before .before .before .before .before .before .word-at .ensures .0) (c .before .before .before .before .before .before .before .before .before .before .before .before .before .args .x .now) (c .before .before .before .before .before .before .before .before .before .before .before .before .before .args .found .now) (c .before .before .before .before .before .before .before .body-true .ensures) (not-false _ (c .before .before .before .before .before .before .if1 .left)) (c .before .before .before .before .if2 .left) (c .before .before .add-single .ensures)
+
+pub fire-spec : {M : Type 1} → statement M
+fire-spec =
+    tie.close
+    (tie.spec
+    add-word-at
+    word-at-requires
+    add-h
+    add-b
+    add-b-2
+    body-true-requires
+    same-length
+    returns
+    add-if2
+    mul-if2
+    shared-slice-read-if2
+    add-chosen-requires
+    same-length-2
+    returns-2
+    add-single-requires
+    same-length-3
+    returns-3)

@@ -1,0 +1,18 @@
+-- `stable::word_at` meets its contract: the reader's word, made wider. Assumes nothing.
+use mathlib.Core.Path.{sym}
+use borrow.Author.Needs.{needs}
+use Rattle.aspif.proofs.Walking.{first-word}
+use Rattle.stable.proofs.word_at.Statement.{statement}
+use Rattle.stable.proofs.word_at.Tie as tie
+
+word-at-requires : tie.Need-word-at-requires
+word-at-requires c κs = search needs
+
+cast-result : tie.Need-cast-result
+cast-result c = search needs
+
+returns : tie.Need-returns
+returns c = (sym (first-word _ _ _ (c .word-at .ensures .0)), c .word-at .ensures .1)
+
+pub word-at-spec : {M : Type 1} → statement M
+word-at-spec = tie.close (tie.spec word-at-requires cast-result returns)

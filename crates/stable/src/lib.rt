@@ -1,0 +1,284 @@
+// Stable candidates: the first broken rule, the least model of the reduct, the smallest unfounded atom.
+ghost use mathlib.Core.Path.{_≡_};
+ghost use mathlib.Core.Bool.{_&&_};
+ghost use Prim.Native.Nat.{ℕ, _+_, _≤_, _<_};
+ghost use lib.Dec.{eqb};
+ghost use lib.ListN.{length};
+ghost use Rattle.faults.specs.Marks.{among};
+ghost use Rattle.aspif.specs.Grammar.{plainHead};
+ghost use Rattle.aspif.specs.Words.{word, behind, after, listAt, literalsAt, saysAt, linesOf, AllBelow, SmallHead, Taped};
+ghost use Rattle.stable.specs.Meaning.{firstBroken, broken, inHead, FoundedBy};
+ghost use Rattle.faults.specs.Marks.{isMarked};
+ghost use Rattle.stable.specs.Values.{asBroken, asUnfounded};
+ghost use Rattle.stable.specs.Index.{headAt, bodyAt, LiteralsAt, RuleAt, Ahead, Indexed};
+ghost use Rattle.stable.specs.Steps.{holds, fires, Marked, Added, Readable, Round, Both, LeastBy, Sought};
+use aspif::walk::after_at;
+
+// Which rule is broken first, by the place of its line.
+pub enum Broken {
+    None,
+    At(u32),
+}
+
+// Which unfounded atom is the smallest.
+pub enum Unfounded {
+    None,
+    Atom(u32),
+}
+
+// The word at a place of the tape, and 0 past its end.
+fn word_at(tape: &[u32], p: usize) -> usize
+    ensures { λ r. ⌜ r ≡ word (now (tape .entry)) p ⌝ }
+    ensures { λ r. ⌜ r < 4294967296 ⌝ }
+{
+    let w = aspif::walk::word_at(tape, p, 0);
+    w as usize
+}
+
+// Whether each literal of the list at `at` is true, negated atoms being looked up in x and the others in s.
+fn body_true(tape: &[u32], at: usize, x: &[u8], s: &[u8]) -> bool
+    requires { ⌜ LiteralsAt (now tape) at ⌝ }
+    requires { ⌜ length (now x) ≡ 4097 ⌝ }
+    requires { ⌜ length (now s) ≡ 4097 ⌝ }
+    ensures { λ r. ⌜ r ≡ holds (isMarked (now (x .entry))) (isMarked (now (s .entry))) (literalsAt (now (tape .entry)) at) ⌝ }
+{
+    let mut left = word_at(tape, at);
+    let mut p = at + 1;
+    while left != 0 {
+        let w = tape[p] as usize;
+        let a = w / 2;
+        if w % 2 == 0 {
+            if s[a] != 1 {
+                return false;
+            }
+        } else {
+            if x[a] == 1 {
+                return false;
+            }
+        }
+        p += 1;
+        left -= 1;
+    }
+    true
+}
+
+// Whether the rule at p is broken in x.
+fn is_broken(tape: &[u32], p: usize, x: &[u8]) -> bool
+    requires { ⌜ RuleAt (now tape) p ⌝ }
+    requires { ⌜ length (now x) ≡ 4097 ⌝ }
+    ensures { λ r. ⌜ r ≡ broken (isMarked (now (x .entry))) (saysAt (now (tape .entry)) p) ⌝ }
+{
+    if tape[p + 2] != 0 {
+        return false;
+    }
+    let n = word_at(tape, p + 3);
+    if n != 0 {
+        let a = tape[p + 4] as usize;
+        if x[a] == 1 {
+            return false;
+        }
+    }
+    let b = p + 4 + n;
+    body_true(tape, b, x, x)
+}
+
+// The first broken rule among n lines.
+pub fn first_broken(tape: &[u32], n: usize, x: &[u8]) -> Broken
+    requires { ⌜ Taped (now tape) n ⌝ }
+    requires { ⌜ length (now x) ≡ 4097 ⌝ }
+    ensures { λ r. ⌜ asBroken r ≡ firstBroken (isMarked (now (x .entry))) (linesOf (now (tape .entry)) n) ⌝ }
+{
+    let mut p = 0;
+    let mut left = n;
+    while left != 0 {
+        if tape[p] == 1 {
+            if is_broken(tape, p, x) {
+                return Broken::At(tape[p + 1]);
+            }
+        }
+        p = after_at(tape, p);
+        left -= 1;
+    }
+    Broken::None
+}
+
+// Whether a was not marked before, as 1 or 0; it is marked now.
+fn mark(found: &mut [u8], a: usize) -> usize
+    requires { ⌜ a < length (now found) ⌝ }
+    ensures { λ r. ⌜ Marked (now (found .entry)) (now (found .exit)) a r ⌝ }
+{
+    if found[a] == 1 {
+        return 0;
+    }
+    found[a] = 1;
+    1
+}
+
+// How many atoms of the plain head at `at` are newly marked.
+fn add_single(tape: &[u32], at: usize, found: &mut [u8]) -> usize
+    requires { ⌜ behind (now tape) at ≤ length (now tape) ⌝ }
+    requires { ⌜ SmallHead (plainHead (listAt (now tape) at)) ⌝ }
+    requires { ⌜ length (now found) ≡ 4097 ⌝ }
+    ensures { λ r. ⌜ Added (λ (a : ℕ). inHead a (plainHead (listAt (now (tape .entry)) at))) (now (found .entry)) (now (found .exit)) r ⌝ }
+{
+    let n = word_at(tape, at);
+    if n == 0 {
+        return 0;
+    }
+    let a = tape[at + 1] as usize;
+    mark(found, a)
+}
+
+// How many atoms in x of the choice head at `at` are newly marked.
+fn add_chosen(tape: &[u32], at: usize, x: &[u8], found: &mut [u8]) -> usize
+    requires { ⌜ behind (now tape) at ≤ length (now tape) ⌝ }
+    requires { ⌜ AllBelow 4097 (listAt (now tape) at) ⌝ }
+    requires { ⌜ length (now x) ≡ 4097 ⌝ }
+    requires { ⌜ length (now found) ≡ 4097 ⌝ }
+    ensures { λ r. ⌜ Added (λ (a : ℕ). among a (listAt (now (tape .entry)) at) && isMarked (now (x .entry)) a) (now (found .entry)) (now (found .exit)) r ⌝ }
+{
+    let mut left = word_at(tape, at);
+    let mut p = at + 1;
+    let mut added = 0;
+    while left != 0 {
+        let a = tape[p] as usize;
+        if x[a] == 1 {
+            let k = mark(found, a);
+            added += k;
+        }
+        p += 1;
+        left -= 1;
+    }
+    added
+}
+
+// How many atoms are new by the rule at p: its heads, where its body is true by x and the atoms found.
+fn fire(tape: &[u32], p: usize, x: &[u8], found: &mut [u8]) -> usize
+    requires { ⌜ RuleAt (now tape) p ⌝ }
+    requires { ⌜ length (now x) ≡ 4097 ⌝ }
+    requires { ⌜ length (now found) ≡ 4097 ⌝ }
+    ensures { λ r. ⌜ Added (fires (isMarked (now (x .entry))) (isMarked (now (found .entry))) (headAt (now (tape .entry)) p) (bodyAt (now (tape .entry)) p)) (now (found .entry)) (now (found .exit)) r ⌝ }
+{
+    let n = word_at(tape, p + 3);
+    let h = p + 3;
+    let b = p + 4 + n;
+    if !body_true(tape, b, x, found) {
+        return 0;
+    }
+    if tape[p + 2] != 0 {
+        return add_chosen(tape, h, x, found);
+    }
+    add_single(tape, h, found)
+}
+
+// How many atoms are new after every rule has been visited once.
+fn round(tape: &[u32], index: &[u32], m: usize, x: &[u8], found: &mut [u8]) -> usize
+    requires { ⌜ Readable (now tape) (now index) m ⌝ }
+    requires { ⌜ length (now x) ≡ 4097 ⌝ }
+    requires { ⌜ length (now found) ≡ 4097 ⌝ }
+    ensures { λ r. ⌜ Round (isMarked (now (x .entry))) (now (tape .entry)) (now (index .entry)) m (now (found .entry)) (now (found .exit)) r ⌝ }
+{
+    let mut t = 0;
+    let mut i = 0;
+    while i < m {
+        let p = index[i] as usize;
+        let k = fire(tape, p, x, found);
+        t += k;
+        i += 1;
+    }
+    t
+}
+
+// 1 where both are 1.
+fn both(e: u8, v: u8) -> u8
+    ensures { λ r. ⌜ eqb r 1 ≡ (eqb e 1 && eqb v 1) ⌝ }
+{
+    if e == 1 {
+        return v;
+    }
+    0
+}
+
+// The external atoms in x, as the first atoms found.
+fn facts(ext: &[u8], x: &[u8], found: &mut [u8])
+    requires { ⌜ length (now ext) ≡ 4097 ⌝ }
+    requires { ⌜ length (now x) ≡ 4097 ⌝ }
+    requires { ⌜ length (now found) ≡ 4097 ⌝ }
+    ensures { λ r. ⌜ Both (now (ext .entry)) (now (x .entry)) (now (found .exit)) ⌝ }
+{
+    let mut a = 0;
+    while a < 4097 {
+        let v = both(ext[a], x[a]);
+        found[a] = v;
+        a += 1;
+    }
+}
+
+// The least model of the reduct, by rounds until nothing is new.
+fn least(tape: &[u32], index: &[u32], m: usize, ext: &[u8], x: &[u8], found: &mut [u8])
+    requires { ⌜ Readable (now tape) (now index) m ⌝ }
+    requires { ⌜ length (now ext) ≡ 4097 ⌝ }
+    requires { ⌜ length (now x) ≡ 4097 ⌝ }
+    requires { ⌜ length (now found) ≡ 4097 ⌝ }
+    ensures { λ r. ⌜ LeastBy (isMarked (now (x .entry))) (isMarked (now (ext .entry))) (now (tape .entry)) (now (index .entry)) m (now (found .exit)) ⌝ }
+{
+    facts(ext, x, found);
+    let mut t = 1;
+    while t != 0 {
+        t = round(tape, index, m, x, found);
+    }
+}
+
+// The smallest atom in x that is not found.
+fn seek(x: &[u8], found: &[u8]) -> Unfounded
+    requires { ⌜ length (now x) ≡ 4097 ⌝ }
+    requires { ⌜ length (now found) ≡ 4097 ⌝ }
+    ensures { λ r. ⌜ Sought (asUnfounded r) (now (x .entry)) (now (found .entry)) ⌝ }
+{
+    let mut a: usize = 0;
+    while a < 4097 {
+        if x[a] == 1 {
+            if found[a] != 1 {
+                return Unfounded::Atom(a as u32);
+            }
+        }
+        a += 1;
+    }
+    Unfounded::None
+}
+
+// How many rules are among n lines; their places stand in the first places of the index.
+fn list_rules(tape: &[u32], n: usize, index: &mut [u32]) -> usize
+    requires { ⌜ Ahead (now tape) 0 n ⌝ }
+    requires { ⌜ length (now tape) ≤ 60000 ⌝ }
+    requires { ⌜ length (now index) ≡ 12000 ⌝ }
+    ensures { λ r. ⌜ Indexed (now (tape .entry)) n (now (index .exit)) r ⌝ }
+{
+    let mut m = 0;
+    let mut p = 0;
+    let mut left = n;
+    while left != 0 {
+        if tape[p] == 1 {
+            index[m] = p as u32;
+            m += 1;
+        }
+        p = after_at(tape, p);
+        left -= 1;
+    }
+    m
+}
+
+// The smallest unfounded atom of x by the rules among n lines.
+pub fn smallest_unfounded(tape: &[u32], n: usize, ext: &[u8], x: &[u8]) -> Unfounded
+    requires { ⌜ Taped (now tape) n ⌝ }
+    requires { ⌜ length (now tape) ≤ 60000 ⌝ }
+    requires { ⌜ length (now ext) ≡ 4097 ⌝ }
+    requires { ⌜ length (now x) ≡ 4097 ⌝ }
+    ensures { λ r. ⌜ FoundedBy (asUnfounded r) (isMarked (now (x .entry))) (isMarked (now (ext .entry))) (linesOf (now (tape .entry)) n) ⌝ }
+{
+    let mut index = [0u32; 12000];
+    let m = list_rules(tape, n, &mut index);
+    let mut found = [0u8; 4097];
+    least(tape, &index, m, ext, x, &mut found);
+    seek(x, &found)
+}

@@ -1,0 +1,49 @@
+//! The reader's vectors and their container.
+use second::container::{read, write, Case};
+use second::vectors::{candidates, run, texts};
+use std::collections::HashSet;
+
+#[test]
+fn containers_round_trip() {
+    for cases in [texts(), candidates(), Vec::new()] {
+        let container = write(&cases);
+        assert_eq!(read(&container), cases);
+        assert!(container.len() < 60_000);
+    }
+}
+
+#[test]
+fn containers_cut_short() {
+    let case = |name: &str, bytes: &[u8]| Case { name: name.to_string(), bytes: bytes.to_vec() };
+    let cases = [case("a", b"x\ny"), case("", b""), case("b", b"\n")];
+    let container = write(&cases);
+    for end in 0..container.len() {
+        let got = read(&container[..end]);
+        assert_eq!(got, cases[..got.len()]);
+        assert!(got.len() < 3);
+    }
+    assert_eq!(read(b"a 1x\nb\n"), []);
+    assert_eq!(read(b"a 01\nb\n"), []);
+    assert_eq!(read(b"a\nb\n"), []);
+    assert_eq!(read(b"a 60001\n"), []);
+}
+
+#[test]
+fn names_are_names() {
+    for cases in [texts(), candidates()] {
+        let names: HashSet<&str> = cases.iter().map(|c| c.name.as_str()).collect();
+        assert_eq!(names.len(), cases.len());
+        assert!(names.iter().all(|n| n.bytes().all(|b| (33..127).contains(&b))));
+    }
+}
+
+#[test]
+fn runs_both() {
+    let out = run(&texts(), &candidates());
+    assert!(out.starts_with("listing-49\nread 6\n1 10 1 1 1 0\n1 22 0 1 2 1 2\n1 36 0 1 3 1 3\n4 51 1 97 1 2\n"));
+    assert!(out.contains("\nP-0\nrefused 3 0\n"));
+    assert!(out.contains("\ncand:\nrefused 7 0\n"));
+    for number in ["3", "4", "5", "7"] {
+        assert!(out.contains(&format!("\nrefused {number} ")));
+    }
+}
