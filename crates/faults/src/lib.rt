@@ -1,6 +1,6 @@
 // The paper's vocabulary: the kinds of refusal, a refusal with its place, the three countings.
 ghost use mathlib.Core.Path.{_≡_};
-ghost use Rattle.faults.specs.Values.{refusalOf};
+ghost use Rattle.faults.specs.Values.{number, refusalOf};
 
 // One case a number of the paper's table: 1 to 11, then 20 and 21 of the timetable's reader.
 pub enum Kind {
@@ -17,6 +17,29 @@ pub enum Kind {
     Late,
     NotTable,
     NotNamed,
+}
+
+impl Kind {
+    // The paper's number of the kind.
+    pub fn number(self) -> u32
+        ensures { λ r. ⌜ r ≡ number self ⌝ }
+    {
+        match self {
+            Kind::Room => 1,
+            Kind::Long => 2,
+            Kind::Grammar => 3,
+            Kind::Carried => 4,
+            Kind::Bounds => 5,
+            Kind::Terms => 6,
+            Kind::Candidate => 7,
+            Kind::Broken => 8,
+            Kind::Unfounded => 9,
+            Kind::Cycle => 10,
+            Kind::Late => 11,
+            Kind::NotTable => 20,
+            Kind::NotNamed => 21,
+        }
+    }
 }
 
 // Why something is refused, and where.

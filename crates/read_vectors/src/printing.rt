@@ -1,14 +1,11 @@
 // Prints what reading gives: `refused NUMBER PLACE`, or `read COUNT` and the words of each line, or `candidate COUNT` and the atoms.
-ghost use mathlib.Core.Path.{_≡_};
 ghost use Prim.Native.Nat.{_≤_};
 ghost use lib.ListN.{length};
-ghost use Rattle.faults.specs.Values.{number};
 ghost use Rattle.aspif.specs.Words.{Within};
 use aspif::candidate::Marked;
 use aspif::candidate::candidate;
 use aspif::walk::after_at;
 use aspif::walk::word_at;
-use faults::Kind;
 use faults::Refusal;
 use faults::Step;
 use libc::STDOUT_FILENO;
@@ -17,27 +14,6 @@ use libc::STDOUT_FILENO;
 pub enum Holds {
     Texts,
     Candidates,
-}
-
-// The paper's number of a kind.
-fn number(k: Kind) -> u64
-    ensures { λ r. ⌜ r ≡ number k ⌝ }
-{
-    match k {
-        Kind::Room => 1,
-        Kind::Long => 2,
-        Kind::Grammar => 3,
-        Kind::Carried => 4,
-        Kind::Bounds => 5,
-        Kind::Terms => 6,
-        Kind::Candidate => 7,
-        Kind::Broken => 8,
-        Kind::Unfounded => 9,
-        Kind::Cycle => 10,
-        Kind::Late => 11,
-        Kind::NotTable => 20,
-        Kind::NotNamed => 21,
-    }
 }
 
 // Prints a name and a line end.
@@ -57,7 +33,7 @@ fn print_refusal(r: Refusal) {
     let kind = r.kind;
     let place = r.place;
     io::write_all(STDOUT_FILENO, b"refused");
-    print_next(number(kind));
+    print_next(kind.number() as u64);
     print_next(place as u64);
     io::write_all(STDOUT_FILENO, b"\n");
 }
