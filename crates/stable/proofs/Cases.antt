@@ -8,7 +8,9 @@ use native.Mathlib.Omega.{arith}
 use lib.IntN.{pos}
 use Rattle.aspif.specs.Statements.{Literal, positive, negated, Head, single, choice, Statement, rule, numeric, string, compound, element, guarded, Line}
 use Rattle.faults.specs.Marks.{among}
-use Rattle.stable.specs.Meaning.{Atoms, unbroken, brokenAt, firstBroken, kept, positives, bodyTrue, reductHead, external, Closed, Least, Unfounded, SmallestUnfounded, Stable}
+use Rattle.stable.specs.Meaning.{Atoms, unbroken, brokenAt, firstBroken, kept, positives, bodyTrue, reductHead, Closed, Least, Unfounded, SmallestUnfounded, Stable}
+use Rattle.terms.specs.Says.{headed}
+use Rattle.terms.specs.Terms.{taken, external}
 use Rattle.stable.proofs.Said.{OfRule, each-said, each-atom}
 use Rattle.stable.proofs.Stability.{stable-answers}
 
@@ -34,6 +36,7 @@ loop-unbroken = refl
 
 -- the empty set is a model of the reduct
 empty-model : Closed (of (1 ∷ 2 ∷ [])) (external loop) loop (of [])
+unfolding taken headed
 empty-model = record {
   facts = λ a e x. e;
   rules = λ h b s. each-said (OfRule (Good (of (1 ∷ 2 ∷ [])) (of []))) loop ((λ k t a e. t), ((λ k t a e. t), tt)) (rule h b) s;
@@ -64,6 +67,7 @@ against-unbroken = refl
 
 -- but the reduct has lost the rule
 none-model : Closed (of (1 ∷ [])) (external against) against (of [])
+unfolding taken headed
 none-model = record {
   facts = λ a e x. e;
   rules = λ h b s. each-said (OfRule (Good (of (1 ∷ [])) (of []))) against ((λ k t a e. k), tt) (rule h b) s;
@@ -101,6 +105,7 @@ without =
 
 -- no head has atom 2
 pub two-external : external without 2 ≡ true
+unfolding taken headed
 two-external = refl
 
 without-unbroken : firstBroken (of (2 ∷ 3 ∷ [])) without ≡ unbroken
@@ -108,6 +113,7 @@ unfolding firstBroken
 without-unbroken = refl
 
 without-least : (a : ℕ) → among a (2 ∷ 3 ∷ []) ≡ true → Least (of (2 ∷ 3 ∷ [])) (external without) without a
+unfolding taken headed
 without-least =
     each-atom (Least (of (2 ∷ 3 ∷ [])) (external without) without) (2 ∷ 3 ∷ [])
     ((λ S c. c .facts 2 refl refl), ((λ S c. c .rules (single 3) [] (inr (inl refl)) refl refl 3 refl), tt))

@@ -11,7 +11,8 @@ use Rattle.aspif.specs.Statements.{empty, single, choice}
 use Rattle.faults.specs.Marks.{among, isMarked}
 use Rattle.aspif.specs.Grammar.{plainHead}
 use Rattle.aspif.specs.Words.{word, wordsFrom, listAt, literalsAt, behind, SmallHead, AllBelow}
-use Rattle.stable.specs.Meaning.{Atoms, inHead, reductHead}
+use Rattle.stable.specs.Meaning.{Atoms, reductHead}
+use Rattle.terms.specs.Says.{inHead}
 use Rattle.stable.specs.Index.{headAt, bodyAt, LiteralsAt, RuleAt}
 use Rattle.stable.specs.Steps.{holds, fires, Marked, Added}
 use Rattle.stable.proofs.Bools.{or-none, or-swap}

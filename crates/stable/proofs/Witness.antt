@@ -12,7 +12,9 @@ use lib.ListN.{length, set, replicate, length-set, length-replicate}
 use Rattle.aspif.specs.Statements.{Literal, positive, Head, single, choice, Statement, rule, numeric, string, compound, element, guarded, Line}
 use Rattle.faults.specs.Marks.{among}
 use Rattle.aspif.specs.Words.{word, wordsFrom, after, saysAt, allWords, linesFrom, linesOf, Within, AllSmall, Taped}
-use Rattle.stable.specs.Meaning.{Atoms, unbroken, brokenAt, firstBroken, kept, positives, bodyTrue, reductHead, external, Closed, Least, Unfounded, SmallestUnfounded, Stable}
+use Rattle.stable.specs.Meaning.{Atoms, unbroken, brokenAt, firstBroken, kept, positives, bodyTrue, reductHead, Closed, Least, Unfounded, SmallestUnfounded, Stable}
+use Rattle.terms.specs.Says.{headed}
+use Rattle.terms.specs.Terms.{taken, external}
 use Rattle.stable.proofs.Bools.{and-cases}
 use Rattle.stable.proofs.Said.{OfRule, each-said, each-atom}
 use Rattle.stable.proofs.Stability.{stable-answers}
@@ -105,6 +107,7 @@ P-stable = stable-answers (of (1 ∷ 2 ∷ 3 ∷ [])) (external P) P .1 (none-br
 
 -- without atom 1 nothing supports atom 2: the model {3}
 model : Closed (of (2 ∷ 3 ∷ [])) (external P) P (of (3 ∷ []))
+unfolding taken headed
 model = record {
   facts = λ a e x. each-atom (λ n. external P n ≡ true → among n (3 ∷ []) ≡ true) (2 ∷ 3 ∷ []) ((λ y. absurd (true≢false (sym y))), ((λ y. refl), tt)) a x e;
   rules = λ h b s. each-said (OfRule Good) P (one, (two, (three, (tt, (tt, (tt, (tt, (tt, (tt, (tt, (tt, (tt, (tt, (tt, (tt, (tt, (tt, tt))))))))))))))))) (rule h b) s;

@@ -8,3 +8,9 @@ pub mod Turns
 pub mod Parts
 pub mod Known
 pub mod Walks
+pub mod Differing
+pub mod Stating
+pub mod Bounds
+pub mod Marking
+pub mod Naming
+pub mod Witness

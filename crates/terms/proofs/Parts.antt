@@ -15,9 +15,9 @@ use Rattle.aspif.specs.Words.{word, wordsFrom, behind, saysAt, lineAt, after, S
 use Rattle.terms.specs.Says.{Part, defines, collects, states, other, partOf}
 use Rattle.terms.specs.Terms.{Env, Stated, faulty}
 use Rattle.terms.specs.Tables.{wordsAt, roleOf, termOn, elementOn, guardOn, partOn, add, walk, turn, gather, LineOn}
-use Rattle.terms.specs.declared.role.Role.{Role}
+use Rattle.terms.specs.declared.lines.Role.{Role}
 use Rattle.aspif.proofs.Walking.{first-word}
-use Rattle.terms.specs.declared.role.Role.the-variants as role
+use Rattle.terms.specs.declared.lines.Role.the-variants as role
 
 -- words within the tape
 pub words-from : (t : List ℕ) (p n : ℕ) → p + n ≤ length t → wordsFrom t p n ≡ wordsAt t p n

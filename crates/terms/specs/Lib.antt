@@ -3,3 +3,4 @@ pub mod Says
 pub mod Terms
 pub mod Tables
 pub mod Values
+pub mod Marks

@@ -35,6 +35,7 @@ pub data Part : Type 0 where
   states : (atom name : ℕ) → (elements : List ℕ) → Guard → Part
   other : Part
 
+-- what a statement does
 abbrev pub partOf : Statement → Part
 partOf (rule h b) = other
 partOf (output bs b) = other
@@ -58,6 +59,7 @@ abbrev pub orElse : {A : Type 0} → Found A → Found A → Found A
 orElse (found a) b = found a
 orElse nothing b = b
 
+-- what one line says of the term u
 abbrev pub termIn : ℕ → Part → Found Term
 termIn u (defines v t) = pick (eqb u v) (found t) nothing
 termIn u (collects v e) = nothing
@@ -69,6 +71,7 @@ unfoldable pub term : List Line → ℕ → Found Term
 term [] u = nothing
 term (l ∷ ls) u = orElse (termIn u (partOf (l .says))) (term ls u)
 
+-- what one line says of the element w
 abbrev pub elementIn : ℕ → Part → Found Element
 elementIn w (defines u t) = nothing
 elementIn w (collects v e) = pick (eqb w v) (found e) nothing
@@ -112,6 +115,7 @@ pub record Difference (ls : List Line) (p : ℕ) (vs : List ℕ) (g u : ℕ) (d 
   pub order : term ls g ≡ found (str atMost)
   pub bound : Bound ls u (d .k)
 
+-- one line says that a is d
 abbrev pub SaysIn : List Line → ℕ → Diff → Part → Type 0
 SaysIn ls a d (defines u t) = ⊥
 SaysIn ls a d (collects v e) = ⊥
@@ -137,6 +141,7 @@ pub record Name (ls : List Line) (n : ℕ) : Type 0 where
   pub says : Says ls atom diff
   pub side : (diff .x ≡ n) ⊎ (diff .y ≡ n)
 
+-- strictly ascending
 abbrev pub Ascending : List ℕ → Type 0
 Ascending [] = Unit {0}
 Ascending (n ∷ ns) = All (λ m. n < m) ns × Ascending ns
@@ -147,13 +152,15 @@ pub record Names (ls : List Line) (ns : List ℕ) : Type 0 where
   pub all : (n : ℕ) → Name ls n → among n ns ≡ true
   pub only : All (Name ls) ns
 
--- ---- external atoms
+-- ---- heads
 
+-- a stands in a head
 abbrev pub inHead : ℕ → Head → Bool
 inHead a empty = false
 inHead a (single b) = eqb a b
 inHead a (choice bs) = among a bs
 
+-- a stands in the head of a statement
 abbrev pub heads : ℕ → Statement → Bool
 heads a (rule h b) = inHead a h
 heads a (output bs b) = false
@@ -169,9 +176,3 @@ heads a (comment bs) = false
 unfoldable pub headed : List Line → ℕ → Bool
 headed [] a = false
 headed (l ∷ ls) a = heads a (l .says) || headed ls a
-
--- a is external: a difference atom that stands in no rule head
-pub record External (ls : List Line) (a : ℕ) : Type 0 where
-  pub diff : Diff
-  pub says : Says ls a diff
-  pub headless : headed ls a ≡ false

@@ -16,8 +16,8 @@ use Rattle.terms.specs.Says.{Term, num, str, comp, Element, elem, Guard,
 use Rattle.terms.specs.Terms.{Env, Stated, differenceOf, faulty, statedBy, more}
 use Rattle.faults.specs.declared.Step.{Step}
 use Rattle.faults.specs.declared.Step.the-variants.{Good, Refused}
-use Rattle.terms.specs.declared.role.Role.{Role}
-use Rattle.terms.specs.declared.role.Role.the-variants as role
+use Rattle.terms.specs.declared.lines.Role.{Role}
+use Rattle.terms.specs.declared.lines.Role.the-variants as role
 
 -- ---- what stands at a place of the tape
 
@@ -52,6 +52,10 @@ elementOn t p =
 
 unfoldable pub guardOn : List ℕ → ℕ → Guard
 guardOn t p = pick (eqb (word t p) 95) unguarded (guard (word t (p + 5 + word t (p + 4))) (word t (p + 6 + word t (p + 4))))
+
+-- how many of n head atoms count: all of a choice head, at most one of a plain one
+unfoldable pub headCount : (choice n : ℕ) → ℕ
+headCount choice n = pick (eqb choice 0) (pick (eqb n 0) 0 1) n
 
 -- by the role of the line at p
 abbrev pub byRole : Role → (term element atom : Part) → Part

@@ -1,16 +1,19 @@
 -- Refusal 6: document 01, 'Difference atoms'. Lines are taken in order, each with what the lines before it define. It can be run. Assumes nothing.
-use Prim.Native.Nat.{ℕ}
+use Prim.Native.Nat.{ℕ, _<_}
+use mathlib.Core.Path.{_≡_}
 use mathlib.Core.List.{List, [], _∷_, _++_}
 use mathlib.Core.Bool.{Bool, true, false, _&&_, _||_, not}
 use lib.Dec.{eqb}
 use lib.IntN.{ℤ, pos, negsuc, negℤ}
 use Rattle.faults.specs.Answer.{Answer, got, refused, mapped, pick}
 use Rattle.aspif.specs.Statements.{Line}
+use Rattle.aspif.specs.Words.{Between}
 use Rattle.diffs.specs.Diff.{Diff}
-use Rattle.terms.specs.Says.{Term, num, str, comp, Element, elem, Guard, unguarded, guard, Part, defines, collects, states, other, partOf, Found, found, nothing, term, elementAt, diffWord, minus, atMost}
+use Rattle.terms.specs.Says.{Term, num, str, comp, Element, elem, Guard, unguarded, guard, Part, defines, collects, states, other, partOf, Found, found, nothing, term, elementAt, diffWord, minus, atMost, headed, Some}
 
 -- ---- what lines have defined and stated
 
+-- the line states a theory atom of a
 abbrev pub statesIn : ℕ → Part → Bool
 statesIn a (defines u t) = false
 statesIn a (collects v e) = false
@@ -22,30 +25,36 @@ unfoldable pub taken : List Line → ℕ → Bool
 taken [] a = false
 taken (l ∷ ls) a = statesIn a (partOf (l .says)) || taken ls a
 
+-- what lines say of each number
 pub record Env : Type 0 where
   pub terms : ℕ → Found Term
   pub elements : ℕ → Found Element
   pub taken : ℕ → Bool
 
+-- what these lines say
 abbrev pub known : List Line → Env
 known ls = record { terms = term ls; elements = elementAt ls; taken = taken ls }
 
+-- something is there
 abbrev pub defined : {A : Type 0} → Found A → Bool
 defined (found a) = true
 defined nothing = false
 
+-- every number of the list is defined
 unfoldable pub allDefined : {A : Type 0} → (ℕ → Found A) → List ℕ → Bool
 allDefined look [] = true
 allDefined look (u ∷ us) = defined (look u) && allDefined look us
 
 -- ---- which difference a theory atom states
 
+-- two strings have the same bytes
 unfoldable pub sameBytes : List ℕ → List ℕ → Bool
 sameBytes [] [] = true
 sameBytes [] (b ∷ bs) = false
 sameBytes (a ∷ s) [] = false
 sameBytes (a ∷ s) (b ∷ bs) = eqb a b && sameBytes s bs
 
+-- a term is the string l
 unfoldable pub isString : List ℕ → Found Term → Bool
 isString l nothing = false
 isString l (found (num k)) = false
@@ -57,6 +66,7 @@ unfoldable pub isMinus : (ℕ → Found Term) → ℤ → Bool
 isMinus look (pos t) = isString minus (look t)
 isMinus look (negsuc t) = false
 
+-- a numeric term, negated
 unfoldable pub opposite : Found Term → Found ℤ
 opposite nothing = nothing
 opposite (found (num k)) = found (negℤ k)
@@ -72,6 +82,7 @@ boundOf look (found (comp t [])) = nothing
 boundOf look (found (comp t (n ∷ []))) = pick (isMinus look t) (opposite (look n)) nothing
 boundOf look (found (comp t (n ∷ m ∷ us))) = nothing
 
+-- x and y of a difference
 pub record Pair : Type 0 where
   pub x : ℕ
   pub y : ℕ
@@ -94,6 +105,7 @@ pairIn look (found (elem (w ∷ []) [])) = pairOf look (look w)
 pairIn look (found (elem (w ∷ []) (l ∷ ls))) = nothing
 pairIn look (found (elem (w ∷ u ∷ us) ls)) = nothing
 
+-- x, y and k together
 abbrev pub joined : Found Pair → Found ℤ → Found Diff
 joined (found p) (found k) = found (record { x = p .x; y = p .y; k = k })
 joined (found p) nothing = nothing
@@ -118,18 +130,22 @@ twice env (collects v e) = defined (env .elements v)
 twice env (states a p vs g) = false
 twice env other = false
 
+-- t is defined, where it is a term number
 abbrev pub functorKnown : (ℕ → Found Term) → ℤ → Bool
 functorKnown look (pos t) = defined (look t)
 functorKnown look (negsuc t) = true
 
+-- a term uses what is defined
 abbrev pub termUses : (ℕ → Found Term) → Term → Bool
 termUses look (num k) = true
 termUses look (str s) = true
 termUses look (comp t us) = functorKnown look t && allDefined look us
 
+-- and so does an element
 abbrev pub elementUses : (ℕ → Found Term) → Element → Bool
 elementUses look (elem us ls) = allDefined look us
 
+-- and so do operator and bound
 abbrev pub guardUses : (ℕ → Found Term) → Guard → Bool
 guardUses look unguarded = true
 guardUses look (guard g u) = defined (look g) && defined (look u)
@@ -156,6 +172,7 @@ notDifference env (collects v e) = false
 notDifference env (states a p vs g) = not (defined (differenceOf (env .terms) (env .elements) p vs g))
 notDifference env other = false
 
+-- one of the four
 unfoldable pub faulty : Env → Part → Bool
 faulty env s = twice env s || (undefinedUse env s || (second env s || notDifference env s))
 
@@ -166,16 +183,19 @@ pub record Stated : Type 0 where
   pub atom : ℕ
   pub says : Diff
 
+-- a difference as that of a
 abbrev pub statedAs : ℕ → Found Diff → Found Stated
 statedAs a (found d) = found (record { atom = a; says = d })
 statedAs a nothing = nothing
 
+-- the difference that a line states
 abbrev pub statedBy : Env → Part → Found Stated
 statedBy env (defines u t) = nothing
 statedBy env (collects v e) = nothing
 statedBy env (states a p vs g) = statedAs a (differenceOf (env .terms) (env .elements) p vs g)
 statedBy env other = nothing
 
+-- a difference in front of the others
 abbrev pub more : Found Stated → Answer (List Stated) → Answer (List Stated)
 more (found d) r = mapped (λ (ds : List Stated). d ∷ ds) r
 more nothing r = r
@@ -191,3 +211,19 @@ differencesFrom before (l ∷ ls) =
 -- the differences that the lines state, in order; or 6 at the first line that is faulty
 unfoldable pub differences : List Line → Answer (List Stated)
 differences ls = differencesFrom [] ls
+
+-- among these, a says d
+abbrev pub Lists : List Stated → ℕ → Diff → Type 0
+Lists ds a d = Some (λ (s : Stated). s ≡ record { atom = a; says = d }) ds
+
+-- names below 1,024, and a bound from -1,000,000 to 1,000,000
+pub record SmallDiff (d : Diff) : Type 0 where
+  pub x-small : d .x < 1024
+  pub y-small : d .y < 1024
+  pub k-small : Between 1000000 1000000 (d .k)
+
+-- ---- external atoms
+
+-- a difference atom that stands in no rule head
+abbrev pub external : List Line → ℕ → Bool
+external ls a = taken ls a && not (headed ls a)

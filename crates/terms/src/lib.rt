@@ -11,7 +11,7 @@ use faults::Step;
 
 mod difference;
 mod lines;
-mod role;
+pub mod marks;
 mod tables;
 
 // Takes the n lines of the tape in order; the tables are blank at first.

@@ -10,12 +10,10 @@ ghost use Rattle.aspif.specs.Grammar.{integerOf};
 ghost use Rattle.aspif.specs.Words.{word, lineAt};
 ghost use Rattle.terms.specs.Says.{defines, collects, states};
 ghost use Rattle.terms.specs.Terms.{Stated, allDefined, functorKnown, faulty};
-ghost use Rattle.terms.specs.Tables.{wordsAt, termOn, elementOn, guardOn, lookIn, envOf, walk, turn, heldAt, gather, marks, Room, countedIf, LineOn};
+ghost use Rattle.terms.specs.Tables.{wordsAt, roleOf, termOn, elementOn, guardOn, lookIn, envOf, walk, turn, heldAt, gather, marks, Room, countedIf, LineOn};
 use crate::difference::Said;
 use crate::difference::difference;
 use crate::difference::is_term;
-use crate::role::Role;
-use crate::role::role_of;
 use crate::tables::atom_entry;
 use crate::tables::element_entry;
 use crate::tables::put_atom;
@@ -29,6 +27,39 @@ use faults::Kind;
 use faults::Refusal;
 use faults::Step;
 use faults::TermNo;
+
+// What a line is for.
+pub enum Role {
+    Term,
+    Element,
+    Atom,
+    Other,
+}
+
+// The role of the lines of a kind.
+fn role_of(kind: u32) -> Role
+    ensures { λ r. ⌜ r ≡ roleOf kind ⌝ }
+{
+    if kind == 90 {
+        return Role::Term;
+    }
+    if kind == 91 {
+        return Role::Term;
+    }
+    if kind == 92 {
+        return Role::Term;
+    }
+    if kind == 94 {
+        return Role::Element;
+    }
+    if kind == 95 {
+        return Role::Atom;
+    }
+    if kind == 96 {
+        return Role::Atom;
+    }
+    Role::Other
+}
 
 // Whether the n terms from `from` on are all defined.
 fn all_known(tape: &[u32], from: usize, n: u32, terms: &[usize]) -> bool
@@ -66,8 +97,8 @@ fn bad_term(tape: &[u32], p: usize, terms: &[usize]) -> bool
     ensures { λ r. ⌜ ((els seen : List ℕ) → r ≡ faulty (envOf (now (tape .entry)) (now (terms .entry)) els seen) (defines (word (now (tape .entry)) (p + 2)) (termOn (now (tape .entry)) p))) ⌝ }
 {
     let u = word_at(tape, p, 2);
-    let e = term_entry(terms, TermNo(u));
-    if e != 0 {
+    let before = term_entry(terms, TermNo(u));
+    if before != 0 {
         return true;
     }
     let kind = word_at(tape, p, 0);

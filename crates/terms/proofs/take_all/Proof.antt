@@ -45,7 +45,9 @@ same-length-7 : tie.Need-same-length-7 Inv-loop μ-loop
 same-length-7 c = c .before .before .before .before .before .before .before .before .before .before .before .before .before .before .before .take-line .kept .1 .1 .1 .1 .1 .1 .1 .1 .0 ∙ c .before .before .before .before .before .before .before .before .before .before .before .before .before .before .before .before .before .before .before .before .before .before .before .before .loop .inv .1 .of-ks
 
 returns : tie.Need-returns Inv-loop μ-loop
-returns c = at-refusal (c .before .before .before .before .before .before .before .before .before .before .before .before .before .before .before .before .before .before .before .before .before .before .before .loop-test .taken) (c .before .before .before .before .before .before .before .before .before .before .before .before .before .before .before .before .before .before .before .before .before .before .before .before .loop .inv .0) (c .before .before .before .before .before .before .before .before .before .before .before .before .before .before .before .take-line .last .1 .1 .0) (c .before .before .before .before .before .before .before .before .before .before .before .before .before .before .before .take-line .last .1 .1 .1 .0) (c .before .before .before .before .before .before .before .before .before .before .before .before .before .before .before .take-line .last .1 .1 .1 .1 .0) (c .before .before .before .before .before .before .before .before .before .before .before .before .before .before .before .take-line .last .1 .1 .1 .1 .1 .0) (c .before .before .before .before .before .before .before .before .before .before .before .before .before .before .before .take-line .last .1 .1 .1 .1 .1 .1 .0) (c .before .before .before .before .before .before .before .before .before .before .before .before .before .before .before .take-line .last .1 .1 .1 .1 .1 .1 .1 .0) (c .before .before .before .before .before .before .before .before .before .before .before .before .before .before .before .take-line .last .1 .1 .1 .1 .1 .1 .1 .1 .0) _ (c .before .before .before .before .before .before .before .before .before .before .before .before .before .before .before .take-line .ensures .0) _ (c .enum-told .given .1)
+returns c =
+    let t = c .before .before .before .before .before .before .before .before .before .before .before .before .before .before .before .take-line in
+    at-refusal (c .before .before .before .before .before .before .before .before .before .before .before .before .before .before .before .before .before .before .before .before .before .before .before .loop-test .taken) (c .before .before .before .before .before .before .before .before .before .before .before .before .before .before .before .before .before .before .before .before .before .before .before .before .loop .inv .0) (t .last .1 .1 .0) (t .last .1 .1 .1 .0) (t .last .1 .1 .1 .1 .0) (t .last .1 .1 .1 .1 .1 .0) (t .last .1 .1 .1 .1 .1 .1 .0) (t .last .1 .1 .1 .1 .1 .1 .1 .0) (t .last .1 .1 .1 .1 .1 .1 .1 .1 .0) _ (t .ensures .0) _ (c .enum-told .given .1)
 
 after-at-requires : tie.Need-after-at-requires Inv-loop μ-loop
 after-at-requires c κs = line-on _ _ _ (c .before .before .before .before .before .before .before .before .before .before .before .before .before .before .before .before .before .before .before .before .before .before .before .before .loop-test .taken) (c .before .before .before .before .before .before .before .before .before .before .before .before .before .before .before .before .before .before .before .before .before .before .before .before .before .loop .inv .0 .ahead) .starts
@@ -57,7 +59,10 @@ loop-less : tie.Need-loop-less Inv-loop μ-loop
 loop-less c = search needs
 
 loop-again : tie.Need-loop-again Inv-loop μ-loop
-loop-again c = (at-next (c .before .before .before .before .before .before .before .before .before .before .before .before .before .before .before .before .before .before .before .before .before .before .before .before .before .loop-test .taken) (c .before .before .before .before .before .before .before .before .before .before .before .before .before .before .before .before .before .before .before .before .before .before .before .before .before .before .loop .inv .0) (c .before .before .before .before .before .before .before .before .before .before .before .before .before .before .before .before .before .take-line .last .1 .1 .0) (c .before .before .before .before .before .before .before .before .before .before .before .before .before .before .before .before .before .take-line .last .1 .1 .1 .0) (c .before .before .before .before .before .before .before .before .before .before .before .before .before .before .before .before .before .take-line .last .1 .1 .1 .1 .0) (c .before .before .before .before .before .before .before .before .before .before .before .before .before .before .before .before .before .take-line .last .1 .1 .1 .1 .1 .0) (c .before .before .before .before .before .before .before .before .before .before .before .before .before .before .before .before .before .take-line .last .1 .1 .1 .1 .1 .1 .0) (c .before .before .before .before .before .before .before .before .before .before .before .before .before .before .before .before .before .take-line .last .1 .1 .1 .1 .1 .1 .1 .0) (c .before .before .before .before .before .before .before .before .before .before .before .before .before .before .before .before .before .take-line .last .1 .1 .1 .1 .1 .1 .1 .1 .0) _ (c .before .before .before .before .before .before .before .before .before .before .before .before .before .before .before .before .before .take-line .ensures .0) _ _ (c .before .before .s .given .1) (c .after-at .ensures) (c .before .before .before .before .before .before .before .before .before .before .before .before .before .before .before .before .before .take-line .ensures .1) (record { of-terms = c .before .before .before .before .before .before .before .before .before .before .before .before .before .before .before .before .before .take-line .kept .1 .1 .0; of-elements = c .before .before .before .before .before .before .before .before .before .before .before .before .before .before .before .before .before .take-line .kept .1 .1 .1 .0; of-seen = c .before .before .before .before .before .before .before .before .before .before .before .before .before .before .before .before .before .take-line .kept .1 .1 .1 .1 .0; of-atoms = c .before .before .before .before .before .before .before .before .before .before .before .before .before .before .before .before .before .take-line .kept .1 .1 .1 .1 .1 .0; of-xs = c .before .before .before .before .before .before .before .before .before .before .before .before .before .before .before .before .before .take-line .kept .1 .1 .1 .1 .1 .1 .0; of-ys = c .before .before .before .before .before .before .before .before .before .before .before .before .before .before .before .before .before .take-line .kept .1 .1 .1 .1 .1 .1 .1 .0; of-ks = c .before .before .before .before .before .before .before .before .before .before .before .before .before .before .before .before .before .take-line .kept .1 .1 .1 .1 .1 .1 .1 .1 .0 }), kept-then (c .before .before .before .before .before .before .before .before .before .before .before .before .before .before .before .before .before .before .before .before .before .before .before .before .before .before .loop .inv .1) (record { of-terms = c .before .before .before .before .before .before .before .before .before .before .before .before .before .before .before .before .before .take-line .kept .1 .1 .0; of-elements = c .before .before .before .before .before .before .before .before .before .before .before .before .before .before .before .before .before .take-line .kept .1 .1 .1 .0; of-seen = c .before .before .before .before .before .before .before .before .before .before .before .before .before .before .before .before .before .take-line .kept .1 .1 .1 .1 .0; of-atoms = c .before .before .before .before .before .before .before .before .before .before .before .before .before .before .before .before .before .take-line .kept .1 .1 .1 .1 .1 .0; of-xs = c .before .before .before .before .before .before .before .before .before .before .before .before .before .before .before .before .before .take-line .kept .1 .1 .1 .1 .1 .1 .0; of-ys = c .before .before .before .before .before .before .before .before .before .before .before .before .before .before .before .before .before .take-line .kept .1 .1 .1 .1 .1 .1 .1 .0; of-ks = c .before .before .before .before .before .before .before .before .before .before .before .before .before .before .before .before .before .take-line .kept .1 .1 .1 .1 .1 .1 .1 .1 .0 }))
+loop-again c =
+    let t = c .before .before .before .before .before .before .before .before .before .before .before .before .before .before .before .before .before .take-line in
+    let i = c .before .before .before .before .before .before .before .before .before .before .before .before .before .before .before .before .before .before .before .before .before .before .before .before .before .before .loop .inv in
+    (at-next (c .before .before .before .before .before .before .before .before .before .before .before .before .before .before .before .before .before .before .before .before .before .before .before .before .before .loop-test .taken) (i .0) (t .last .1 .1 .0) (t .last .1 .1 .1 .0) (t .last .1 .1 .1 .1 .0) (t .last .1 .1 .1 .1 .1 .0) (t .last .1 .1 .1 .1 .1 .1 .0) (t .last .1 .1 .1 .1 .1 .1 .1 .0) (t .last .1 .1 .1 .1 .1 .1 .1 .1 .0) _ (t .ensures .0) _ _ (c .before .before .s .given .1) (c .after-at .ensures) (t .ensures .1) (record { of-terms = t .kept .1 .1 .0; of-elements = t .kept .1 .1 .1 .0; of-seen = t .kept .1 .1 .1 .1 .0; of-atoms = t .kept .1 .1 .1 .1 .1 .0; of-xs = t .kept .1 .1 .1 .1 .1 .1 .0; of-ys = t .kept .1 .1 .1 .1 .1 .1 .1 .0; of-ks = t .kept .1 .1 .1 .1 .1 .1 .1 .1 .0 }), kept-then (i .1) (record { of-terms = t .kept .1 .1 .0; of-elements = t .kept .1 .1 .1 .0; of-seen = t .kept .1 .1 .1 .1 .0; of-atoms = t .kept .1 .1 .1 .1 .1 .0; of-xs = t .kept .1 .1 .1 .1 .1 .1 .0; of-ys = t .kept .1 .1 .1 .1 .1 .1 .1 .0; of-ks = t .kept .1 .1 .1 .1 .1 .1 .1 .1 .0 }))
 
 same-length-8 : tie.Need-same-length-8 Inv-loop μ-loop
 same-length-8 c = c .before .loop .inv .1 .of-terms

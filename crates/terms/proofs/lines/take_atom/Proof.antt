@@ -1,4 +1,4 @@
--- `take_atom`: a second statement and one that is no difference are refused; else the difference is stored, and there is room for one a atom.
+-- `take_atom`: a second statement and one that is no difference are refused; else the difference is stored, and there is room for one an atom.
 use native.Mathlib.Omega.{arith}
 use Rattle.terms.proofs.Turns.{turn-stops, counted-stops, atom-second, atom-none, atom-stored, room-left, marks-put}
 use mir.Syntax.{w32}
@@ -90,8 +90,16 @@ same-length-7 : tie.Need-same-length-7
 same-length-7 c = search needs
 
 returns-3 : tie.Need-returns-3
-returns-3 c = let k = c .before .before .before .before .before .d .given .0 .1 .1 .0 in
-    (λ ls. atom-stored ls _ _ _ _ _ _ _ _ _ _ _ _ (c .before .before .before .before .before .d .given .0 .0 .0) (c .before .before .before .before .before .d .given .0 .1 .0 .0) k (toZ w32 (ofZ w32 k)) _ (c .before .before .before .before .before .before .before .before .before .before .before .before .before .before .before .before .before .before .before .pre .1) (c .before .before .before .before .before .before .before .before .before .before .before .before .before .before .before .before .before .before .before .pre .0 .1) (c .before .before .before .before .before .before .before .before .before .before .before .word-at .ensures .0) (c .before .before .before .before .before .before .before .before .before .atom-entry .ensures) (c .before .before .before .before .before .before .before .before .if1 .left) (rw (c .before .before .before .before .before .d .given .1) at (c .before .before .before .before .before .before .before .difference .ensures)) (c .before .before .put-atom .ensures) (back {z = k} (record { sfits = c .before .before .before .before .known-told .given .1 .1 .0 .1 })), omega (arith, c .before .before .before .before .before .before .before .before .before .before .before .before .before .before .before .before .before .before .before .pre .1 .counted, marks-put _ _ _ (omega (arith, c .before .before .before .before .before .before .before .before .before .before .before .word-at .ensures .0, c .before .before .before .before .before .before .before .before .before .before .before .before .before .before .before .before .before .before .before .pre .0 .1, c .before .before .before .before .before .before .before .before .before .before .before .before .before .before .before .before .before .before .before .pre .1 .for-seen)) (c .before .before .before .before .before .before .before .before .before .atom-entry .ensures) (c .before .before .before .before .before .before .before .before .if1 .left) _ _ (c .before .before .put-atom .ensures)))
+returns-3 c =
+    let r = c .before .before .before .before .before .before .before .before .before .before .before .before .before .before .before .before .before .before .before .pre .1 in
+    let small = c .before .before .before .before .before .before .before .before .before .before .before .before .before .before .before .before .before .before .before .pre .0 .1 in
+    let a = c .before .before .before .before .before .before .before .before .before .before .before .word-at .ensures .0 in
+    let e = c .before .before .before .before .before .before .before .before .before .atom-entry .ensures in
+    let d = c .before .before .before .before .before .d .given in
+    let k = d .0 .1 .1 .0 in
+    let said = rw (d .1) at (c .before .before .before .before .before .before .before .difference .ensures) in
+    let same = back {z = k} (record { sfits = c .before .before .before .before .known-told .given .1 .1 .0 .1 }) in
+    (λ ls. atom-stored ls _ _ _ _ _ _ _ _ _ _ _ _ (d .0 .0 .0) (d .0 .1 .0 .0) k (toZ w32 (ofZ w32 k)) _ r small a e (c .before .before .before .before .before .before .before .before .if1 .left) said (c .before .before .put-atom .ensures) same, omega (arith, r .counted, marks-put _ _ _ (omega (arith, a, small, r .for-seen)) e (c .before .before .before .before .before .before .before .before .if1 .left) _ _ (c .before .before .put-atom .ensures)))
 
 pub take-atom-spec : {M : Type 1} → statement M
 take-atom-spec =

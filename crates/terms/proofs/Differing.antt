@@ -1,0 +1,218 @@
+-- What a theory atom says is what `differenceOf` finds: found is said, more lines change nothing that is said, and nothing else is said.
+use Prim.Native.Nat.{ℕ}
+use mathlib.Core.Path.{_≡_, refl, ap, _∙_}
+use mathlib.Core.List.{List, [], _∷_, _++_}
+use mathlib.Core.Bool.{Bool, true, false, _&&_}
+use native.Mathlib.Omega.{arith}
+use borrow.Author.Tests.{eqb-true}
+use lib.Dec.{eqb}
+use lib.IntN.{ℤ, pos, negsuc, negℤ}
+use Rattle.faults.specs.Answer.{pick}
+use Rattle.aspif.specs.Statements.{Line}
+use Rattle.diffs.specs.Diff.{Diff}
+use Rattle.terms.specs.Says.{Term, num, str, comp, Element, elem, unguarded, guard, Found, found, nothing, term, elementAt, diffWord, minus, atMost, Bound, plain, negated, Difference}
+use Rattle.terms.specs.Terms.{sameBytes, isString, isMinus, opposite, boundOf, Pair, pairOf, pairIn, joined, differenceOf}
+use Rattle.terms.proofs.Known.{term-append, element-append}
+
+-- ---- what a test or a search that succeeds says
+
+never : {A : Type 0} {a : A} → nothing ≡ found a → ⊥
+never {A} {a} e = let z : _≡_ {A = ℕ} 0 1 = (cc) in omega arith
+
+not-true : false ≡ true → ⊥
+not-true e = let z : _≡_ {A = ℕ} 0 1 = (cc) in omega arith
+
+record Both (A : Type 0) (b : Bool) (x : Found A) (a : A) : Type 0 where
+  test : b ≡ true
+  then : x ≡ found a
+
+picked : {A : Type 0} (b : Bool) (x : Found A) (a : A) → pick b x nothing ≡ found a → Both A b x a
+picked true x a h = record { test = refl; then = h }
+picked false x a h = absurd (never h)
+
+same-is : (s l : List ℕ) → sameBytes s l ≡ true → s ≡ l
+unfolding sameBytes
+same-is [] [] h = refl
+same-is [] (b ∷ l) h = absurd (not-true h)
+same-is (a ∷ s) [] h = absurd (not-true h)
+same-is (a ∷ s) (b ∷ l) h = go (same-is s l) (eqb a b) refl h
+  where
+    go : (sameBytes s l ≡ true → s ≡ l) → (x : Bool) → eqb a b ≡ x → x && sameBytes s l ≡ true → a ∷ s ≡ b ∷ l
+    go r true q h = rw (eqb-true a b q, r h)
+    go r false q h = absurd (not-true h)
+
+string-is : (l : List ℕ) (x : Found Term) → isString l x ≡ true → x ≡ found (str l)
+unfolding isString
+string-is l nothing h = absurd (not-true h)
+string-is l (found (num k)) h = absurd (not-true h)
+string-is l (found (str s)) h = rw (same-is s l h)
+string-is l (found (comp t us)) h = absurd (not-true h)
+
+record Minus (look : ℕ → Found Term) (z : ℤ) : Type 0 where
+  t : ℕ
+  functor : z ≡ pos t
+  sign : look t ≡ found (str minus)
+
+minus-is : (look : ℕ → Found Term) (z : ℤ) → isMinus look z ≡ true → Minus look z
+unfolding isMinus
+minus-is look (pos t) h = record { t = t; functor = refl; sign = string-is minus (look t) h }
+minus-is look (negsuc t) h = absurd (not-true h)
+
+record Sides (look : ℕ → Found Term) (x : Found Term) (p : Pair) : Type 0 where
+  t : ℕ
+  pair : x ≡ found (comp (pos t) (p .x ∷ p .y ∷ []))
+  sign : look t ≡ found (str minus)
+
+pair-is : (look : ℕ → Found Term) (x : Found Term) (p : Pair) → pairOf look x ≡ found p → Sides look x p
+unfolding pairOf
+pair-is look nothing p h = absurd (never h)
+pair-is look (found (num k)) p h = absurd (never h)
+pair-is look (found (str s)) p h = absurd (never h)
+pair-is look (found (comp t [])) p h = absurd (never h)
+pair-is look (found (comp t (a ∷ []))) p h = absurd (never h)
+pair-is look (found (comp t (a ∷ b ∷ []))) p h =
+    let q = picked (isMinus look t) (found (record { x = a; y = b })) p h in
+    let m = minus-is look t (q .test) in
+    let e : record { x = a; y = b } ≡ p = cc (q .then) in
+    record { t = m .t; pair = ap (λ (z : ℤ). found (comp z (a ∷ b ∷ []))) (m .functor) ∙ ap (λ (s : Pair). found (comp (pos (m .t)) (s .x ∷ s .y ∷ []))) e; sign = m .sign }
+pair-is look (found (comp t (a ∷ b ∷ c ∷ us))) p h = absurd (never h)
+
+record Inside (look : ℕ → Found Term) (x : Found Element) (p : Pair) : Type 0 where
+  w : ℕ
+  inside : x ≡ found (elem (w ∷ []) [])
+  sides : Sides look (look w) p
+
+inside-is : (look : ℕ → Found Term) (x : Found Element) (p : Pair) → pairIn look x ≡ found p → Inside look x p
+unfolding pairIn
+inside-is look nothing p h = absurd (never h)
+inside-is look (found (elem [] ls)) p h = absurd (never h)
+inside-is look (found (elem (w ∷ []) [])) p h = record { w = w; inside = refl; sides = pair-is look (look w) p h }
+inside-is look (found (elem (w ∷ []) (l ∷ ls))) p h = absurd (never h)
+inside-is look (found (elem (w ∷ u ∷ us) ls)) p h = absurd (never h)
+
+record Opposed (x : Found Term) (k : ℤ) : Type 0 where
+  j : ℤ
+  is : x ≡ found (num j)
+  opposed : k ≡ negℤ j
+
+opposite-is : (x : Found Term) (k : ℤ) → opposite x ≡ found k → Opposed x k
+unfolding opposite
+opposite-is nothing k h = absurd (never h)
+opposite-is (found (num j)) k h = record { j = j; is = refl; opposed = cc h }
+opposite-is (found (str s)) k h = absurd (never h)
+opposite-is (found (comp t us)) k h = absurd (never h)
+
+bound-is : (ls : List Line) (u : ℕ) (x : Found Term) (k : ℤ) → term ls u ≡ x → boundOf (term ls) x ≡ found k → Bound ls u k
+unfolding boundOf
+bound-is ls u nothing k e h = absurd (never h)
+bound-is ls u (found (num j)) k e h = let q : j ≡ k = cc h in plain (e ∙ rw q)
+bound-is ls u (found (str s)) k e h = absurd (never h)
+bound-is ls u (found (comp t [])) k e h = absurd (never h)
+bound-is ls u (found (comp t (n ∷ []))) k e h =
+    let q = picked (isMinus (term ls) t) (opposite (term ls n)) k h in
+    let m = minus-is (term ls) t (q .test) in
+    let o = opposite-is (term ls n) k (q .then) in
+    negated (m .t) n (o .j) (rw (← m .functor) e) (m .sign) (o .is) (o .opposed)
+bound-is ls u (found (comp t (n ∷ m ∷ us))) k e h = absurd (never h)
+
+record Joined (p : Found Pair) (q : Found ℤ) (d : Diff) : Type 0 where
+  pair : p ≡ found (record { x = d .x; y = d .y })
+  bound : q ≡ found (d .k)
+
+joined-is : (p : Found Pair) (q : Found ℤ) (d : Diff) → joined p q ≡ found d → Joined p q d
+joined-is (found p) (found k) d h =
+    let e : record { x = p .x; y = p .y; k = k } ≡ d = cc h in
+    record { pair = ap (λ (s : Diff). found (record { x = s .x; y = s .y })) e; bound = ap (λ (s : Diff). found (s .k)) e }
+joined-is (found p) nothing d h = absurd (never h)
+joined-is nothing q d h = absurd (never h)
+
+-- ---- found is said
+
+pub said : (ls : List Line) (p : ℕ) (vs : List ℕ) (g u : ℕ) (d : Diff) → differenceOf (term ls) (elementAt ls) p vs (guard g u) ≡ found d → Difference ls p vs g u d
+unfolding differenceOf
+said ls p [] g u d h = absurd (never h)
+said ls p (v ∷ w ∷ vs) g u d h = absurd (never h)
+said ls p (v ∷ []) g u d h =
+    let a = picked (isString diffWord (term ls p)) _ d h in
+    let b = picked (isString atMost (term ls g)) (joined (pairIn (term ls) (elementAt ls v)) (boundOf (term ls) (term ls u))) d (a .then) in
+    let j = joined-is (pairIn (term ls) (elementAt ls v)) (boundOf (term ls) (term ls u)) d (b .then) in
+    let i = inside-is (term ls) (elementAt ls v) (record { x = d .x; y = d .y }) (j .pair) in
+    record {
+      named = string-is diffWord (term ls p) (a .test);
+      v = v;
+      one = refl;
+      w = i .w;
+      inside = i .inside;
+      t = i .sides .t;
+      pair = i .sides .pair;
+      sign = i .sides .sign;
+      order = string-is atMost (term ls g) (b .test);
+      bound = bound-is ls u (term ls u) (d .k) refl (j .bound);
+    }
+
+-- a theory atom without a guard says nothing
+pub unsaid : (look : ℕ → Found Term) (els : ℕ → Found Element) (p : ℕ) (vs : List ℕ) (d : Diff) → differenceOf look els p vs unguarded ≡ found d → ⊥
+unfolding differenceOf
+unsaid look els p [] d h = never h
+unsaid look els p (v ∷ []) d h = never h
+unsaid look els p (v ∷ w ∷ vs) d h = never h
+
+-- ---- more lines change nothing that is said
+
+module _ (ls ms : List Line) where
+  term-more : (u : ℕ) {x : Term} → term ls u ≡ found x → term (ls ++ ms) u ≡ found x
+  term-more u {x} h = term-append ls ms u ∙ rw h
+
+  element-more : (v : ℕ) {x : Element} → elementAt ls v ≡ found x → elementAt (ls ++ ms) v ≡ found x
+  element-more v {x} h = element-append ls ms v ∙ rw h
+
+  bound-more : {u : ℕ} {k : ℤ} → Bound ls u k → Bound (ls ++ ms) u k
+  bound-more {u} (plain h) = plain (term-more u h)
+  bound-more {u} (negated t n j a b c e) = negated t n j (term-more u a) (term-more t b) (term-more n c) e
+
+  pub said-more : {p : ℕ} {vs : List ℕ} {g u : ℕ} {d : Diff} → Difference ls p vs g u d → Difference (ls ++ ms) p vs g u d
+  said-more {p} {vs} {g} {u} {d} q =
+      record {
+        named = term-more p (q .named);
+        v = q .v;
+        one = q .one;
+        w = q .w;
+        inside = element-more (q .v) (q .inside);
+        t = q .t;
+        pair = term-more (q .w) (q .pair);
+        sign = term-more (q .t) (q .sign);
+        order = term-more g (q .order);
+        bound = bound-more (q .bound);
+      }
+
+-- ---- nothing else is said
+
+clash : {x : Found Term} {k : ℤ} {t : ℤ} {us : List ℕ} → x ≡ found (num k) → x ≡ found (comp t us) → ⊥
+clash {x} {k} {t} {us} a b = let z : _≡_ {A = ℕ} 0 1 = (cc) in omega arith
+
+bound-one : {ls : List Line} {u : ℕ} {j k : ℤ} → Bound ls u j → Bound ls u k → j ≡ k
+bound-one (plain a) (plain b) = (cc)
+bound-one (plain a) (negated t n i b c d e) = absurd (clash a b)
+bound-one (negated t n i b c d e) (plain a) = absurd (clash a b)
+bound-one (negated t n i b c d e) (negated t′ n′ i′ b′ c′ d′ e′) = (cc)
+
+diff-eq : (d e : Diff) → d .x ≡ e .x → d .y ≡ e .y → d .k ≡ e .k → d ≡ e
+diff-eq d e a b c = go a b c
+  where
+    go : {x y x′ y′ : ℕ} {k k′ : ℤ} → x ≡ x′ → y ≡ y′ → k ≡ k′ → _≡_ {A = Diff} (record { x = x; y = y; k = k }) (record { x = x′; y = y′; k = k′ })
+    go {x} {y} {x′} {y′} {k} {k′} a b c = rw (a, b, c)
+
+pub said-one : {ls : List Line} {p : ℕ} {vs : List ℕ} {g u : ℕ} {d e : Diff} → Difference ls p vs g u d → Difference ls p vs g u e → d ≡ e
+said-one {ls} {p} {vs} {g} {u} {d} {e} a b = diff-eq d e (same .0) (same .1) (bound-one (a .bound) (b .bound))
+  where
+    one : a .v ≡ b .v
+    one = cc (a .one, b .one)
+
+    two : a .w ≡ b .w
+    two = cc (one, a .inside, b .inside)
+
+    pairs : comp (pos (a .t)) (d .x ∷ d .y ∷ []) ≡ comp (pos (b .t)) (e .x ∷ e .y ∷ [])
+    pairs = cc (two, a .pair, b .pair)
+
+    same : (d .x ≡ e .x) × (d .y ≡ e .y)
+    same = (cc pairs, cc pairs)

@@ -1,0 +1,257 @@
+-- Where no line is faulty, the list of differences is what the lines say: each line's difference is found in the lines before it, and more lines change nothing.
+use Prim.Native.Nat.{ℕ}
+use mathlib.Core.Path.{_≡_, refl, sym, ap, _∙_}
+use mathlib.Core.Logic.{_⊎_, inl, inr, ⊎-elim}
+use mathlib.Core.List.{List, [], _∷_, _++_, append-assoc, map}
+use mathlib.Core.Bool.{Bool, true, false, _||_, not}
+use native.Mathlib.Omega.{arith}
+use borrow.Author.Tests.{eqb-false}
+use lib.Dec.{eqb}
+use Rattle.faults.specs.Answer.{Answer, got, refused, pick}
+use Rattle.aspif.specs.Statements.{Line}
+use Rattle.diffs.specs.Diff.{Diff, All, NotIn, Distinct}
+use Rattle.terms.specs.Says.{Guard, unguarded, guard, Part, defines, collects, states, other, partOf, Found, found, nothing, term, elementAt, Difference, SaysIn, Some, Says}
+use Rattle.faults.specs.Marks.{among}
+use Rattle.terms.specs.Terms.{statesIn, known, taken, defined, differenceOf, undefinedUse, notDifference, faulty, Stated, statedBy, more, differencesFrom, differences, Lists}
+use Rattle.terms.proofs.Known.{taken-append}
+use Rattle.terms.proofs.Differing.{said, unsaid, said-more, said-one}
+
+-- ---- a line that is not faulty
+
+last-false : (a b c d : Bool) → a || (b || (c || d)) ≡ false → d ≡ false
+last-false false false false d h = h
+last-false true b c d h = let z : _≡_ {A = Bool} true false = h in (cc)
+last-false false true c d h = let z : _≡_ {A = Bool} true false = h in (cc)
+last-false false false true d h = let z : _≡_ {A = Bool} true false = h in (cc)
+
+third-false : (a b c d : Bool) → a || (b || (c || d)) ≡ false → c ≡ false
+third-false false false false d h = refl
+third-false true b c d h = let z : _≡_ {A = Bool} true false = h in (cc)
+third-false false true c d h = let z : _≡_ {A = Bool} true false = h in (cc)
+third-false false false true d h = h
+
+record Is {A : Type 0} (x : Found A) : Type 0 where
+  value : A
+  is : x ≡ found value
+
+there : {A : Type 0} (x : Found A) → not (defined x) ≡ false → Is x
+there (found a) h = record { value = a; is = refl }
+there nothing h = let z : _≡_ {A = Bool} true false = h in absurd (not-so z)
+  where
+    not-so : true ≡ false → ⊥
+    not-so z = let y : _≡_ {A = ℕ} 0 1 = (cc) in omega arith
+
+-- a theory atom that is not faulty states a difference, and its atom was not taken
+record Fine (before : List Line) (a p : ℕ) (vs : List ℕ) (g : Guard) : Type 0 where
+  diff : Diff
+  is : differenceOf (term before) (elementAt before) p vs g ≡ found diff
+  fresh : taken before a ≡ false
+
+fine : (before : List Line) (a p : ℕ) (vs : List ℕ) (g : Guard) → faulty (known before) (states a p vs g) ≡ false → Fine before a p vs g
+unfolding faulty
+fine before a p vs g h =
+    let q = there (differenceOf (term before) (elementAt before) p vs g) (last-false false (undefinedUse (known before) (states a p vs g)) (taken before a) (notDifference (known before) (states a p vs g)) h) in
+    record { diff = q .value; is = q .is; fresh = third-false false (undefinedUse (known before) (states a p vs g)) (taken before a) (notDifference (known before) (states a p vs g)) h }
+
+-- ---- one turn of the list
+
+-- what an answer that was got says of the line and of the lines behind it
+record Turn (before : List Line) (l : Line) (ls : List Line) (ds : List Stated) : Type 0 where
+  fair : faulty (known before) (partOf (l .says)) ≡ false
+  rest : List Stated
+  behind : differencesFrom (before ++ (l ∷ [])) ls ≡ got rest
+  whole : more (statedBy (known before) (partOf (l .says))) (got rest) ≡ got ds
+
+got-more : (x : Found Stated) (r : Answer (List Stated)) (ds : List Stated) → more x r ≡ got ds → (es : List Stated) × (r ≡ got es)
+got-more nothing r ds h = (ds, h)
+got-more (found d) (got es) ds h = (es, refl)
+got-more (found d) (refused k p) ds h = let z : _≡_ {A = ℕ} 0 1 = (cc) in absurd (omega arith)
+
+turn : (before : List Line) (l : Line) (ls : List Line) (ds : List Stated) → differencesFrom before (l ∷ ls) ≡ got ds → Turn before l ls ds
+unfolding differencesFrom
+turn before l ls ds = go (faulty (known before) (partOf (l .says))) refl
+  where
+    go : (b : Bool) → faulty (known before) (partOf (l .says)) ≡ b
+        → pick b (refused 6 (l .place)) (more (statedBy (known before) (partOf (l .says))) (differencesFrom (before ++ (l ∷ [])) ls)) ≡ got ds
+        → Turn before l ls ds
+    go true q h = let z : _≡_ {A = ℕ} 0 1 = (cc) in absurd (omega arith)
+    go false q h =
+        let m = got-more (statedBy (known before) (partOf (l .says))) (differencesFrom (before ++ (l ∷ [])) ls) ds h in
+        record { fair = q; rest = m .0; behind = m .1; whole = rw (m .1) at h }
+
+-- ---- what is listed is what is said
+
+got-is : {xs ys : List Stated} → got xs ≡ got ys → xs ≡ ys
+got-is {xs} {ys} h = cc h
+
+more-is : (x : Stated) (rest ds : List Stated) → more (found x) (got rest) ≡ got ds → x ∷ rest ≡ ds
+more-is x rest ds h = got-is h
+
+later : (x : Found Stated) (rest ds : List Stated) (a : ℕ) (d : Diff) → more x (got rest) ≡ got ds → Lists rest a d → Lists ds a d
+later nothing rest ds a d h q = rw (← got-is h) q
+later (found x) rest ds a d h q = rw (← more-is x rest ds h) (inr q)
+
+stated-eq : (a b : ℕ) (d e : Diff) → b ≡ a → d ≡ e → _≡_ {A = Stated} (record { atom = b; says = e }) (record { atom = a; says = d })
+stated-eq a b d e p q = rw (p, q)
+
+lists-as : (xs ys : List Stated) (a : ℕ) (d : Diff) → xs ≡ ys → Lists ys a d → Lists xs a d
+lists-as xs ys a d e q = rw e q
+
+said-as : {ls : List Line} {p : ℕ} {vs : List ℕ} {g u : ℕ} {d e : Diff} → d ≡ e → Difference ls p vs g u d → Difference ls p vs g u e
+said-as {ls} {p} {vs} {g} {u} {d} {e} h q = rw (← h) q
+
+module _ (whole before ms : List Line) (e : before ++ ms ≡ whole) (a : ℕ) (d : Diff) (rest ds : List Stated) where
+  whole-said : {p : ℕ} {vs : List ℕ} {g u : ℕ} {x : Diff} → Difference before p vs g u x → Difference whole p vs g u x
+  whole-said q = rw (← e) (said-more before ms q)
+
+  head-listed : (s : Part) → faulty (known before) s ≡ false → more (statedBy (known before) s) (got rest) ≡ got ds → SaysIn whole a d s → Lists ds a d
+  head-listed (defines u t) f h q = absurd q
+  head-listed (collects v x) f h q = absurd q
+  head-listed (states b p vs unguarded) f h q = absurd q
+  head-listed (states b p vs (guard g u)) f h q =
+      let k = fine before b p vs (guard g u) f in
+      let o : d ≡ k .diff = said-one (q .1) (whole-said (said before p vs g u (k .diff) (k .is))) in
+      let y : record { atom = b; says = k .diff } ∷ rest ≡ ds = more-is _ rest ds (rw (k .is) at h) in
+      rw (← y) (inl (stated-eq a b d (k .diff) (q .0) o))
+  head-listed other f h q = absurd q
+
+  list-said : (s : Part) → faulty (known before) s ≡ false → more (statedBy (known before) s) (got rest) ≡ got ds → Lists ds a d → SaysIn whole a d s ⊎ Lists rest a d
+  list-said (defines u t) f h q = inr (rw (got-is h) q)
+  list-said (collects v x) f h q = inr (rw (got-is h) q)
+  list-said (states b p vs unguarded) f h q = let k = fine before b p vs unguarded f in absurd (unsaid (term before) (elementAt before) p vs (k .diff) (k .is))
+  list-said (states b p vs (guard g u)) f h q =
+      let k = fine before b p vs (guard g u) f in
+      let y : record { atom = b; says = k .diff } ∷ rest ≡ ds = more-is _ rest ds (rw (k .is) at h) in
+      let z : Lists (record { atom = b; says = k .diff } ∷ rest) a d = lists-as _ ds a d y q in
+      ⊎-elim (λ w. inl (ap (λ (x : Stated). x .atom) w, said-as (ap (λ (x : Stated). x .says) w) (whole-said (said before p vs g u (k .diff) (k .is))))) (λ w. inr w) z
+  list-said other f h q = inr (rw (got-is h) q)
+
+one-more : (before : List Line) (l : Line) (ls whole : List Line) → before ++ (l ∷ ls) ≡ whole → (before ++ (l ∷ [])) ++ ls ≡ whole
+one-more before l ls whole e = append-assoc before (l ∷ []) ls ∙ e
+
+listed-from : (whole before ls : List Line) (ds : List Stated) (a : ℕ) (d : Diff) → before ++ ls ≡ whole → differencesFrom before ls ≡ got ds
+    → Some (λ (l : Line). SaysIn whole a d (partOf (l .says))) ls → Lists ds a d
+listed-from whole before [] ds a d e h q = absurd q
+listed-from whole before (l ∷ ls) ds a d e h q =
+    let t = turn before l ls ds h in
+    ⊎-elim (λ w. head-listed whole before (l ∷ ls) e a d (t .rest) ds (partOf (l .says)) (t .fair) (t .whole) w)
+    (λ w. later (statedBy (known before) (partOf (l .says))) (t .rest) ds a d (t .whole) (listed-from whole (before ++ (l ∷ [])) ls (t .rest) a d (one-more before l ls whole e) (t .behind) w))
+    q
+
+said-from : (whole before ls : List Line) (ds : List Stated) (a : ℕ) (d : Diff) → before ++ ls ≡ whole → differencesFrom before ls ≡ got ds
+    → Lists ds a d → Some (λ (l : Line). SaysIn whole a d (partOf (l .says))) ls
+unfolding differencesFrom
+said-from whole before [] ds a d e h q = rw (← got-is h) at q
+said-from whole before (l ∷ ls) ds a d e h q =
+    let t = turn before l ls ds h in
+    ⊎-elim (λ w. inl w) (λ w. inr (said-from whole (before ++ (l ∷ [])) ls (t .rest) a d (one-more before l ls whole e) (t .behind) w))
+    (list-said whole before (l ∷ ls) e a d (t .rest) ds (partOf (l .says)) (t .fair) (t .whole) q)
+
+module _ (ls : List Line) (ds : List Stated) (h : differences ls ≡ got ds) where
+  -- what an atom says is listed
+  pub says-listed : (a : ℕ) (d : Diff) → Says ls a d → Lists ds a d
+  unfolding differences
+  says-listed a d q = listed-from ls [] ls ds a d refl h q
+
+  -- what is listed, an atom says
+  pub listed-says : (a : ℕ) (d : Diff) → Lists ds a d → Says ls a d
+  unfolding differences
+  listed-says a d q = said-from ls [] ls ds a d refl h q
+
+-- ---- an atom says one difference
+
+or-false : (a b : Bool) → a || b ≡ false → (a ≡ false) × (b ≡ false)
+or-false false b h = (refl, h)
+or-false true b h = let z : _≡_ {A = Bool} true false = h in ((cc), (cc))
+
+-- not taken by the lines before and this one
+untaken : (before : List Line) (l : Line) (a : ℕ) → taken (before ++ (l ∷ [])) a ≡ false → (taken before a ≡ false) × (taken (l ∷ []) a ≡ false)
+untaken before l a h = or-false (taken before a) (taken (l ∷ []) a) (sym (taken-append before (l ∷ []) a) ∙ h)
+
+all-map : {A : Type 0} (P Q : A → Type 0) → ((x : A) → P x → Q x) → (xs : List A) → All P xs → All Q xs
+all-map P Q f [] h = tt
+all-map P Q f (x ∷ xs) h = (f x (h .0), all-map P Q f xs (h .1))
+
+-- atoms that were taken neither before nor by each other
+record Apart (before : List Line) (ds : List Stated) : Type 0 where
+  fresh : All (λ (s : Stated). taken before (s .atom) ≡ false) ds
+  distinct : Distinct (map (λ (s : Stated). s .atom) ds)
+
+not-atom : (b : ℕ) (ds : List Stated) → All (λ (s : Stated). eqb (s .atom) b || false ≡ false) ds → NotIn b (map (λ (s : Stated). s .atom) ds)
+not-atom b [] h = tt
+not-atom b (s ∷ ds) h = (λ e. eqb-false (s .atom) b (or-false (eqb (s .atom) b) false (h .0) .0) (sym e), not-atom b ds (h .1))
+
+module _ (before : List Line) (l : Line) (rest ds : List Stated) (r : Apart (before ++ (l ∷ [])) rest) where
+  still-fresh : All (λ (s : Stated). taken before (s .atom) ≡ false) rest
+  still-fresh = all-map _ _ (λ (s : Stated) h. untaken before l (s .atom) h .0) rest (r .fresh)
+
+  same-apart : got rest ≡ got ds → Apart before ds
+  same-apart h = rw (← got-is h) (record { fresh = still-fresh; distinct = r .distinct })
+
+  more-apart : (s : Part) → partOf (l .says) ≡ s → faulty (known before) s ≡ false → more (statedBy (known before) s) (got rest) ≡ got ds → Apart before ds
+  unfolding taken
+  more-apart (defines u t) p f h = same-apart h
+  more-apart (collects v x) p f h = same-apart h
+  more-apart (states b q vs g) p f h =
+      let k = fine before b q vs g f in
+      let y : record { atom = b; says = k .diff } ∷ rest ≡ ds = more-is _ rest ds (rw (k .is) at h) in
+      rw (← y)
+      (record { fresh = (k .fresh, still-fresh); distinct = (not-atom b rest (all-map _ _ (λ (s : Stated) w. rw p at (untaken before l (s .atom) w .1)) rest (r .fresh)), r .distinct) })
+  more-apart other p f h = same-apart h
+
+apart-from : (before ls : List Line) (ds : List Stated) → differencesFrom before ls ≡ got ds → Apart before ds
+unfolding differencesFrom
+apart-from before [] ds h = rw (← got-is h) (record { fresh = tt; distinct = tt })
+apart-from before (l ∷ ls) ds h =
+    let t = turn before l ls ds h in
+    more-apart before l (t .rest) ds (apart-from (before ++ (l ∷ [])) ls (t .rest) (t .behind)) (partOf (l .says)) refl (t .fair) (t .whole)
+
+-- no two differences listed have the same atom
+pub atoms-differ : (ls : List Line) (ds : List Stated) → differences ls ≡ got ds → Distinct (map (λ (s : Stated). s .atom) ds)
+unfolding differences
+atoms-differ ls ds h = apart-from [] ls ds h .distinct
+
+not-listed : (a : ℕ) (d : Diff) (ds : List Stated) → NotIn a (map (λ (s : Stated). s .atom) ds) → Lists ds a d → ⊥
+not-listed a d [] n q = q
+not-listed a d (s ∷ ds) n q = ⊎-elim (λ e. n .0 (sym (ap (λ (x : Stated). x .atom) e))) (λ w. not-listed a d ds (n .1) w) q
+
+not-in : (ns : List ℕ) {a b : ℕ} → a ≡ b → NotIn a ns → NotIn b ns
+not-in ns {a} {b} e n = rw (← e) n
+
+lists-one : (a : ℕ) (d e : Diff) (ds : List Stated) → Distinct (map (λ (s : Stated). s .atom) ds) → Lists ds a d → Lists ds a e → d ≡ e
+lists-one a d e [] k p q = absurd p
+lists-one a d e (s ∷ ds) k p q =
+    ⊎-elim
+    (λ x. ⊎-elim (λ y. ap (λ (z : Stated). z .says) (sym x ∙ y)) (λ y. absurd (not-listed a e ds (not-in (map (λ (s : Stated). s .atom) ds) (ap (λ (z : Stated). z .atom) x) (k .0)) y)) q)
+    (λ x. ⊎-elim (λ y. absurd (not-listed a d ds (not-in (map (λ (s : Stated). s .atom) ds) (ap (λ (z : Stated). z .atom) y) (k .0)) x)) (λ y. lists-one a d e ds (k .1) x y) q)
+    p
+
+-- an atom says at most one difference
+pub says-one : (ls : List Line) (ds : List Stated) → differences ls ≡ got ds → (a : ℕ) (d e : Diff) → Says ls a d → Says ls a e → d ≡ e
+says-one ls ds h a d e p q = lists-one a d e ds (atoms-differ ls ds h) (says-listed ls ds h a d p) (says-listed ls ds h a e q)
+
+-- ---- the atoms listed are those that have a theory statement
+
+more-taken : (before : List Line) (s : Part) (rest ds : List Stated) (ls : List Line) (a : ℕ)
+    → faulty (known before) s ≡ false → more (statedBy (known before) s) (got rest) ≡ got ds
+    → among a (map (λ (x : Stated). x .atom) rest) ≡ taken ls a
+    → among a (map (λ (x : Stated). x .atom) ds) ≡ statesIn a s || taken ls a
+more-taken before (defines u t) rest ds ls a h w e = rw (← got-is w) e
+more-taken before (collects v t) rest ds ls a h w e = rw (← got-is w) e
+more-taken before (states b p vs g) rest ds ls a h w e =
+    let f = fine before b p vs g h in
+    let d = more-is (record { atom = b; says = f .diff }) rest ds (rw (f .is) at w) in
+    rw (← d, e)
+more-taken before other rest ds ls a h w e = rw (← got-is w) e
+
+taken-from : (before ls : List Line) (ds : List Stated) → differencesFrom before ls ≡ got ds → (a : ℕ) → among a (map (λ (x : Stated). x .atom) ds) ≡ taken ls a
+unfolding differencesFrom taken
+taken-from before [] ds h a = rw (← got-is h)
+taken-from before (l ∷ ls) ds h a =
+    let t = turn before l ls ds h in
+    more-taken before (partOf (l .says)) (t .rest) ds ls a (t .fair) (t .whole) (taken-from (before ++ (l ∷ [])) ls (t .rest) (t .behind) a)
+
+-- an atom is listed exactly if it has a theory statement
+pub atoms-taken : (ls : List Line) (ds : List Stated) → differences ls ≡ got ds → (a : ℕ) → among a (map (λ (x : Stated). x .atom) ds) ≡ taken ls a
+unfolding differences
+atoms-taken ls ds h a = taken-from [] ls ds h a
