@@ -1,8 +1,15 @@
 -- Plan P: its words on a tape meet what `collect` requires, and it states recv(4) - send(3) ≤ 40 by atom 2 and send(3) - recv(4) ≤ -5 by atom 3.
+use Prim.Native.Nat.{ℕ}
 use mathlib.Core.Path.{_≡_, refl}
 use mathlib.Core.List.{List, [], _∷_}
+use mathlib.Core.Bool.{false}
+use native.Mathlib.Omega.{arith}
 use lib.Dec.{lit<, lit≤}
-use lib.IntN.{pos, negsuc}
+use lib.ListN.{replicate, length-replicate}
+use Rattle.terms.specs.Values.{Roomy}
+use Rattle.terms.specs.Marks.{Marks}
+use Rattle.terms.proofs.Marking.{marks-zeros}
+use lib.IntN.{ℤ, pos, negsuc}
 use Rattle.faults.specs.Answer.{got, refused}
 use Rattle.aspif.specs.Statements.{positive, single, choice, rule, numeric, string, compound, element, theory, guarded, Line}
 use Rattle.aspif.specs.Words.{word, wordsFrom, saysAt, after, linesFrom, linesOf, allWords, Within, AllSmall, Taped}
@@ -43,6 +50,15 @@ small = ((lit< tt, ((lit< tt, tt), tt)), ((lit< tt, (lit< tt, (lit< tt, tt))), (
 pub plan-taped : Taped (allWords planP) 17
 unfolding Within linesFrom saysAt after word wordsFrom
 plan-taped = record { within = (lit≤ tt, (lit≤ tt, (lit≤ tt, (lit≤ tt, (lit≤ tt, (lit≤ tt, (lit≤ tt, (lit≤ tt, (lit≤ tt, (lit≤ tt, (lit≤ tt, (lit≤ tt, (lit≤ tt, (lit≤ tt, (lit≤ tt, (lit≤ tt, (lit≤ tt, lit≤ tt))))))))))))))))); small = small }
+
+-- four new arrays of 4,097 places are the room that `collect` requires
+pub new-room : Roomy (replicate {A = ℕ} 4097 0) (replicate {A = ℕ} 4097 0) (replicate {A = ℕ} 4097 0) (replicate {A = ℤ} 4097 (pos 0))
+new-room =
+    record { for-atoms = omega (arith, length-replicate {A = ℕ} 4097 0); for-xs = omega (arith, length-replicate {A = ℕ} 4097 0); for-ys = omega (arith, length-replicate {A = ℕ} 4097 0); for-ks = omega (arith, length-replicate {A = ℤ} 4097 (pos 0)) }
+
+-- a new array marks nothing, as `mark_names`, `mark_heads` and `externals` require
+pub new-marks : (n : ℕ) → Marks n (replicate {A = ℕ} n 0) (λ a. false)
+new-marks n = marks-zeros n
 
 -- the two differences, in order
 pub plan-differences : differences planP ≡ got (record { atom = 2; says = record { x = 4; y = 3; k = pos 40 } } ∷ record { atom = 3; says = record { x = 3; y = 4; k = negsuc 4 } } ∷ [])

@@ -1,6 +1,5 @@
 // Terms and theory atoms: refusal 6, or what the difference atoms say.
 ghost use mathlib.Core.Path.{_≡_};
-ghost use mathlib.Core.List.{List};
 ghost use Rattle.aspif.specs.Words.{linesOf, Taped};
 ghost use Rattle.terms.specs.Terms.{differences};
 ghost use Rattle.terms.specs.Tables.{Blank, Room};

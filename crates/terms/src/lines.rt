@@ -179,7 +179,7 @@ fn take_element(tape: &[u32], p: usize, terms: &[usize], elements: &mut [usize],
     Step::Good(n)
 }
 
-// Takes the theory atom line at p, behind n differences.
+// Takes the theory atom line at p, behind n differences; one that uses what is not defined is no difference.
 fn take_atom(
     tape: &[u32],
     p: usize,

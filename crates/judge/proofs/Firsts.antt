@@ -1,0 +1,126 @@
+-- The first places of four slices as a list of differences: what holds of each, which are listed, and which of them are in force.
+use Prim.Native.Nat.{ℕ, zero, suc, _<_}
+use mathlib.Core.Path.{_≡_, refl, subst, ap, _∙_}
+use mathlib.Core.Logic.{_⊎_, inl, inr, ⊎-elim}
+use mathlib.Core.Bool.{Bool, true, false}
+use mathlib.Core.List.{List, [], _∷_, _++_}
+use native.Mathlib.Omega.{arith}
+use native.Mathlib.Decide.{decLt}
+use lib.ListN.{length, length-append}
+use Rattle.faults.specs.Answer.{pick}
+use Rattle.faults.specs.Marks.{isMarked}
+use Rattle.diffs.specs.Diff.{Diff, All}
+use Rattle.diffs.proofs.Choosing.{by-dec}
+use Rattle.diffs.proofs.Names.{all-left, all-right}
+use Rattle.terms.specs.Says.{Some}
+use Rattle.terms.specs.Terms.{Stated, Lists}
+use Rattle.terms.specs.Tables.{firsts}
+use Rattle.judge.specs.Stages.{inForce}
+
+-- ---- each place
+
+-- there are n first places
+pub length-firsts : {A : Type 0} (n : ℕ) (f : ℕ → A) → length (firsts n f) ≡ n
+unfolding firsts
+length-firsts zero f = refl
+length-firsts (suc n) f = length-append (firsts n f) (f n ∷ []) ∙ omega (arith, length-firsts n f)
+
+module _ {A : Type 0} (P : A → Type 0) where
+  -- what holds of each member holds at each of the first n places
+  pub firsts-all : (n : ℕ) (f : ℕ → A) → All P (firsts n f) → (i : ℕ) → i < n → P (f i)
+  unfolding firsts
+  firsts-all zero f h i l = absurd (omega arith)
+  firsts-all (suc n) f h i l =
+      by-dec (decLt i n)
+      (λ g. firsts-all n f (all-left P (firsts n f) (f n ∷ []) h) i g)
+      (λ g. subst (λ (j : ℕ). P (f j)) (omega arith) (all-right P (firsts n f) (f n ∷ []) h .0))
+
+  -- ---- some place
+
+  -- a member of the first part is one of the whole
+  some-left : (l r : List A) → Some P l → Some P (l ++ r)
+  some-left [] r h = absurd h
+  some-left (a ∷ l) r h = ⊎-elim (λ p. inl p) (λ p. inr (some-left l r p)) h
+
+  -- and so is one of the second
+  some-right : (l r : List A) → Some P r → Some P (l ++ r)
+  some-right [] r h = h
+  some-right (a ∷ l) r h = inr (some-right l r h)
+
+  -- a member of the whole is one of a part
+  some-split : (l r : List A) → Some P (l ++ r) → Some P l ⊎ Some P r
+  some-split [] r h = inr h
+  some-split (a ∷ l) r h = ⊎-elim (λ p. inl (inl p)) (λ p. ⊎-elim (λ q. inl (inr q)) (λ q. inr q) (some-split l r p)) h
+
+  -- one of the first n places
+  pub record Place (n : ℕ) (f : ℕ → A) : Type 0 where
+    pub place : ℕ
+    pub within : place < n
+    pub holds : P (f place)
+
+  -- a member stands at a place
+  pub some-place : (n : ℕ) (f : ℕ → A) → Some P (firsts n f) → Place n f
+  unfolding firsts
+  some-place zero f h = absurd h
+  some-place (suc n) f h =
+      ⊎-elim (λ p. let q = some-place n f p in record { place = q .place; within = omega (arith, q .within); holds = q .holds })
+      (λ p. ⊎-elim (λ q. record { place = n; within = omega arith; holds = q }) (λ q. absurd q) p)
+      (some-split (firsts n f) (f n ∷ []) h)
+
+  -- what stands at a place is a member
+  pub place-some : (n : ℕ) (f : ℕ → A) (i : ℕ) → i < n → P (f i) → Some P (firsts n f)
+  unfolding firsts
+  place-some zero f i l h = absurd (omega arith)
+  place-some (suc n) f i l h =
+      by-dec (decLt i n)
+      (λ g. some-left (firsts n f) (f n ∷ []) (place-some n f i g h))
+      (λ g. some-right (firsts n f) (f n ∷ []) (inl (subst (λ (j : ℕ). P (f j)) (omega arith) h)))
+
+-- ---- those in force
+
+module _ (x : List ℕ) where
+  -- those in force of two lists are those of each
+  pub in-force-append : (ds es : List Stated) → inForce x (ds ++ es) ≡ inForce x ds ++ inForce x es
+  unfolding inForce
+  in-force-append [] es = refl
+  in-force-append (s ∷ ds) es = go (isMarked x (s .atom)) (in-force-append ds es)
+    where
+      go : (t : Bool) → inForce x (ds ++ es) ≡ inForce x ds ++ inForce x es
+          → pick t (s ∷ inForce x (ds ++ es)) (inForce x (ds ++ es)) ≡ pick t (s ∷ inForce x ds) (inForce x ds) ++ inForce x es
+      go true e = rw e
+      go false e = e
+
+  -- what holds of each holds of each in force
+  pub all-force : (P : Stated → Type 0) (ds : List Stated) → All P ds → All P (inForce x ds)
+  unfolding inForce
+  all-force P [] h = tt
+  all-force P (s ∷ ds) h = go (isMarked x (s .atom)) (all-force P ds (h .1))
+    where
+      go : (t : Bool) → All P (inForce x ds) → All P (pick t (s ∷ inForce x ds) (inForce x ds))
+      go true q = (h .0, q)
+      go false q = q
+
+  -- what is listed in force is listed, and its atom is marked
+  pub force-lists : (ds : List Stated) (a : ℕ) (d : Diff) → Lists (inForce x ds) a d → Lists ds a d × (isMarked x a ≡ true)
+  unfolding inForce
+  force-lists [] a d h = absurd h
+  force-lists (s ∷ ds) a d h = go (force-lists ds a d) (isMarked x (s .atom)) refl h
+    where
+      go : (Lists (inForce x ds) a d → Lists ds a d × (isMarked x a ≡ true)) → (t : Bool) → isMarked x (s .atom) ≡ t → Lists (pick t (s ∷ inForce x ds) (inForce x ds)) a d → Lists (s ∷ ds) a d × (isMarked x a ≡ true)
+      go f true e q =
+          ⊎-elim (λ w. (inl w, subst (λ (b : ℕ). isMarked x b ≡ true) (ap (λ (z : Stated). z .atom) w) e))
+          (λ w. let r = f w in (inr (r .0), r .1)) q
+      go f false e q = let r = f q in (inr (r .0), r .1)
+
+  -- what is listed with a marked atom is listed in force
+  pub lists-force : (ds : List Stated) (a : ℕ) (d : Diff) → Lists ds a d → isMarked x a ≡ true → Lists (inForce x ds) a d
+  unfolding inForce
+  lists-force [] a d h m = absurd h
+  lists-force (s ∷ ds) a d h m = ⊎-elim here (λ w. further (isMarked x (s .atom)) (lists-force ds a d w m)) h
+    where
+      here : s ≡ record { atom = a; says = d } → Lists (pick (isMarked x (s .atom)) (s ∷ inForce x ds) (inForce x ds)) a d
+      here e = let t : isMarked x (s .atom) ≡ true = ap (λ (z : Stated). isMarked x (z .atom)) e ∙ m in rw t (inl e)
+
+      further : (t : Bool) → Lists (inForce x ds) a d → Lists (pick t (s ∷ inForce x ds) (inForce x ds)) a d
+      further true q = inr q
+      further false q = q

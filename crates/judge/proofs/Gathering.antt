@@ -1,0 +1,127 @@
+-- Gathering the differences in force: after i of them, the first n places hold those of the first i whose atom is marked.
+use Prim.Native.Nat.{ℕ, suc, _+_, _≤_, _<_}
+use mathlib.Core.Path.{_≡_, refl, sym, ap, _∙_}
+use mathlib.Core.List.{List, [], _∷_, _++_, append-nil}
+use native.Mathlib.Omega.{arith}
+use native.Mathlib.Numerals.{add-one}
+use borrow.Author.Tests.{eq-eqb, ne-eqb}
+use lib.IntN.{ℤ, pos}
+use lib.ListN.{length, getD, set, length-set, take}
+use lib.Seq.{getD-set-same, getD-set-other, getD-take, length-take-le}
+use Rattle.aspif.specs.Words.{word}
+use Rattle.terms.specs.Tables.{firsts, heldAt}
+use Rattle.terms.proofs.Turns.{firsts-same}
+use Rattle.judge.specs.Stages.{stated, inForce, Places, Gathered, Filled, SmallStated, Labelled, Candidate}
+use Rattle.judge.proofs.Firsts.{length-firsts, in-force-append, firsts-all, all-force}
+use Rattle.judge.proofs.Few.{few-force}
+
+-- ---- one place more
+
+module _ (labels xs ys : List ℕ) (ks : List ℤ) (n a x y : ℕ) (k : ℤ)
+    (ha : n < length labels) (hx : n < length xs) (hy : n < length ys) (hk : n < length ks) where
+  -- the places before it are as they were
+  others : (i : ℕ) → i < n → heldAt (set labels n a) (set xs n x) (set ys n y) (set ks n k) i ≡ heldAt labels xs ys ks i
+  unfolding word
+  others i h =
+      let z : i ≡ n → ⊥ = λ e. omega arith in
+      rw (getD-set-other labels n i a 0 z, getD-set-other xs n i x 0 z, getD-set-other ys n i y 0 z, getD-set-other ks n i k (pos 0) z)
+
+  -- it has what was stored
+  this : heldAt (set labels n a) (set xs n x) (set ys n y) (set ks n k) n ≡ record { atom = a; says = record { x = x; y = y; k = k } }
+  unfolding word
+  this = rw (getD-set-same labels n a 0 ha, getD-set-same xs n x 0 hx, getD-set-same ys n y 0 hy, getD-set-same ks n k (pos 0) hk)
+
+  -- so the list has one more at its end
+  one-more : stated (suc n) (set labels n a) (set xs n x) (set ys n y) (set ks n k) ≡ stated n labels xs ys ks ++ (record { atom = a; says = record { x = x; y = y; k = k } } ∷ [])
+  unfolding firsts
+  one-more = rw (firsts-same n (heldAt (set labels n a) (set xs n x) (set ys n y) (set ks n k)) (heldAt labels xs ys ks) others, this)
+
+-- ---- the loop
+
+-- before difference i, of m
+pub record Going (atoms xs ys : List ℕ) (ks : List ℤ) (m : ℕ) (x labels gxs gys : List ℕ) (gks : List ℤ) (n i : ℕ) : Type 0 where
+  pub places : Places labels gxs gys gks
+  pub within : i ≤ m
+  pub so-far : Gathered i (inForce x (stated i atoms xs ys ks)) n labels gxs gys gks
+
+module _ (atoms xs ys : List ℕ) (ks : List ℤ) (m : ℕ) (x labels gxs gys : List ℕ) (gks : List ℤ) where
+  -- nothing is gathered
+  pub going-start : Places labels gxs gys gks → Going atoms xs ys ks m x labels gxs gys gks 0 0
+  unfolding inForce firsts
+  going-start p = record { places = p; within = omega arith; so-far = record { few = omega arith; is = refl } }
+
+  module _ (n i : ℕ) (g : Going atoms xs ys ks m x labels gxs gys gks n i) (l : i < m) where
+    -- difference i is not in force
+    pub going-pass : (getD x (getD atoms i 0) 0 ≡ 1 → ⊥) → Going atoms xs ys ks m x labels gxs gys gks n (i + 1)
+    unfolding inForce firsts word
+    going-pass h =
+        record {
+          places = g .places;
+          within = omega arith;
+          so-far = record {
+            few = omega (arith, g .so-far .few);
+            is = rw (add-one i, in-force-append x (stated i atoms xs ys ks) (heldAt atoms xs ys ks i ∷ []), ne-eqb _ _ h, append-nil) (g .so-far .is);
+          };
+        }
+
+    -- difference i is in force
+    pub going-take : m ≤ 4097 → getD x (getD atoms i 0) 0 ≡ 1 → (k : ℤ) → k ≡ getD ks i (pos 0)
+        → Going atoms xs ys ks m x (set labels n (getD atoms i 0)) (set gxs n (getD xs i 0)) (set gys n (getD ys i 0)) (set gks n k) (n + 1) (i + 1)
+    unfolding inForce firsts word
+    going-take f h k e =
+        let p = g .places in
+        let few : n ≤ i = g .so-far .few in
+        record {
+          places = record {
+            for-labels = length-set labels n _ ∙ p .for-labels;
+            for-xs = length-set gxs n _ ∙ p .for-xs;
+            for-ys = length-set gys n _ ∙ p .for-ys;
+            for-ks = length-set gks n _ ∙ p .for-ks;
+          };
+          within = omega arith;
+          so-far = record {
+            few = omega arith;
+            is =
+                rw (add-one i, add-one n, in-force-append x (stated i atoms xs ys ks) (heldAt atoms xs ys ks i ∷ []), eq-eqb _ _ h, ← g .so-far .is, ← e)
+                (one-more labels gxs gys gks n _ _ _ _ (omega (arith, p .for-labels)) (omega (arith, p .for-xs)) (omega (arith, p .for-ys)) (omega (arith, p .for-ks)));
+          };
+        }
+
+  -- all m are passed
+  pub going-end : (n i : ℕ) → Going atoms xs ys ks m x labels gxs gys gks n i → m ≤ i → Gathered m (inForce x (stated m atoms xs ys ks)) n labels gxs gys gks
+  going-end n i g l = let e : i ≡ m = omega (arith, g .within) in rw e at (g .so-far)
+
+-- ---- what was gathered
+
+module _ (m : ℕ) (atoms xs ys : List ℕ) (ks : List ℤ) (f : Filled m atoms xs ys ks) (x : List ℕ) (cand : Candidate x) (n : ℕ) (labels gxs gys : List ℕ) (gks : List ℤ)
+    (g : Gathered m (inForce x (stated m atoms xs ys ks)) n labels gxs gys gks) where
+  -- each that was gathered is within the bounds
+  within : (i : ℕ) → i < n → SmallStated (heldAt labels gxs gys gks i)
+  within = firsts-all SmallStated n (heldAt labels gxs gys gks) (rw (g .is) (all-force x SmallStated (stated m atoms xs ys ks) (f .small)))
+
+  -- they are at most as many as there are atoms
+  gathered-few : n ≤ 4096
+  gathered-few =
+      omega (arith, length-firsts n (heldAt labels gxs gys gks), ap length (g .is), few-force x (cand .none) (stated m atoms xs ys ks) (f .differ) (f .small))
+
+  -- the parts of the slices that were filled are what the times are found of
+  pub gathered-labelled : Places labels gxs gys gks → Labelled (take n labels) (take n gxs) (take n gys) (take n gks)
+  unfolding word
+  gathered-labelled p =
+      let few : n ≤ 4096 = gathered-few in
+      let ll : length (take n labels) ≡ n = length-take-le n labels (omega (arith, p .for-labels)) in
+      let lx : length (take n gxs) ≡ n = length-take-le n gxs (omega (arith, p .for-xs)) in
+      let ly : length (take n gys) ≡ n = length-take-le n gys (omega (arith, p .for-ys)) in
+      let lk : length (take n gks) ≡ n = length-take-le n gks (omega (arith, p .for-ks)) in
+      record {
+        slices = record {
+          few = omega arith;
+          xs-length = lx ∙ sym lk;
+          ys-length = ly ∙ sym lk;
+          named = λ j l.
+              let i : j < n = omega arith in
+              (rw (getD-take n gxs j 0 i) (within j i .0 .x-small), rw (getD-take n gys j 0 i) (within j i .0 .y-small));
+        };
+        labels-length = ll ∙ sym lk;
+        bounded = λ j l. let i : j < n = omega arith in rw (getD-take n gks j (pos 0) i) (within j i .0 .k-small);
+      }

@@ -1,0 +1,86 @@
+-- Models of a reduct by a computed test, and atoms in every model. Assumes nothing.
+use Prim.Native.Nat.{ℕ, _≤_}
+use mathlib.Core.Path.{_≡_, refl, sym, ap, subst, _∙_}
+use mathlib.Core.Bool.{Bool, true, false, not, _&&_, _||_, true≢false}
+use mathlib.Core.List.{List, [], _∷_}
+use mathlib.Core.Logic.{inl, inr, ⊎-elim}
+use native.Mathlib.Omega.{arith}
+use borrow.Author.Tests.{eqb-true, eq-eqb}
+use Rattle.faults.specs.Marks.{among}
+use Rattle.aspif.specs.Statements.{Head, empty, single, choice, Statement, rule, output, numeric, string, compound, element, theory, guarded, comment, Line}
+use Rattle.diffs.specs.Diff.{All}
+use Rattle.stable.specs.Meaning.{Atoms, Says, bodyTrue, kept, positives, reductHead, Closed, Least, Founded, SmallestUnfounded}
+use Rattle.timetable.proofs.Bounds.{and-left, and-right}
+use Rattle.judge.proofs.Ascent.{member, of-member}
+
+-- ---- the test
+
+-- each of the atoms that is in X is in S
+abbrev pub carries : (X S : Atoms) → List ℕ → Bool
+carries X S [] = true
+carries X S (a ∷ es) = (not (X a) || S a) && carries X S es
+
+abbrev headCarries : (X S : Atoms) → Head → Bool
+headCarries X S empty = true
+headCarries X S (single a) = S a
+headCarries X S (choice hs) = carries X S hs
+
+abbrev ruleCarries : (X S : Atoms) → Statement → Bool
+ruleCarries X S (rule h b) = not (kept X b && bodyTrue S (positives b)) || headCarries X S h
+ruleCarries X S (output bs b) = true
+ruleCarries X S (numeric u w) = true
+ruleCarries X S (string u bs) = true
+ruleCarries X S (compound u t us) = true
+ruleCarries X S (element v us b) = true
+ruleCarries X S (theory a p vs) = true
+ruleCarries X S (guarded a p vs g u) = true
+ruleCarries X S (comment bs) = true
+
+-- S has the head of each rule of the reduct by X whose body is true in S
+abbrev pub allCarry : (X S : Atoms) → List Line → Bool
+allCarry X S [] = true
+allCarry X S (l ∷ ls) = ruleCarries X S (l .says) && allCarry X S ls
+
+-- ---- what it shows
+
+then : (x s : Bool) → not x || s ≡ true → x ≡ true → s ≡ true
+then true s h e = h
+then false s h e = absurd (true≢false (sym e))
+
+module _ (X S : Atoms) where
+  carried : (es : List ℕ) → carries X S es ≡ true → (a : ℕ) → among a es ≡ true → X a ≡ true → S a ≡ true
+  carried [] h a e x = absurd (true≢false (sym e))
+  carried (c ∷ es) h a e x =
+      ⊎-elim
+      (λ p. ap S p ∙ then (X c) (S c) (and-left (not (X c) || S c) (carries X S es) h) (ap X (sym p) ∙ x))
+      (λ p. carried es (and-right (not (X c) || S c) (carries X S es) h) a p x)
+      (member a c es e)
+
+  head-carried : (h : Head) → headCarries X S h ≡ true → (a : ℕ) → reductHead X h a ≡ true → S a ≡ true
+  head-carried empty e a r = absurd (true≢false (sym r))
+  head-carried (single c) e a r = ap S (eqb-true a c r) ∙ e
+  head-carried (choice hs) e a r = carried hs e a (and-left (among a hs) (X a) r) (and-right (among a hs) (X a) r)
+
+  said-carried : (ls : List Line) → allCarry X S ls ≡ true → (s : Statement) → Says ls s → ruleCarries X S s ≡ true
+  said-carried [] h s n = absurd n
+  said-carried (l ∷ ls) h s (inl e) = subst (λ (x : Statement). ruleCarries X S x ≡ true) e (and-left (ruleCarries X S (l .says)) (allCarry X S ls) h)
+  said-carried (l ∷ ls) h s (inr n) = said-carried ls (and-right (ruleCarries X S (l .says)) (allCarry X S ls) h) s n
+
+-- S is a model of the reduct by a candidate, if the test holds of each rule and of each external atom
+pub model : (cs : List ℕ) (ext : Atoms) (ls : List Line) (S : Atoms) → carries ext S cs ≡ true → allCarry (λ a. among a cs) S ls ≡ true → Closed (λ a. among a cs) ext ls S
+model cs ext ls S f h = record {
+  facts = λ a e x. carried ext S cs f a x e;
+  rules = λ d b n kp bo a r. head-carried (λ c. among c cs) S d (then (kept (λ c. among c cs) b && bodyTrue S (positives b)) _ (said-carried (λ c. among c cs) S ls h (rule d b) n) (rw (kp, bo))) a r;
+}
+
+-- where each atom of a candidate is in every model of the reduct, none is unfounded
+pub founded-by : (cs : List ℕ) (ext : Atoms) (ls : List Line) → All (Least (λ a. among a cs) ext ls) cs → Founded (λ a. among a cs) ext ls
+founded-by cs ext ls h a u = u .outside (of-member (Least (λ c. among c cs) ext ls) cs a h (u .holds))
+
+-- the first atom of an ascending candidate is the smallest unfounded, if a model of the reduct lacks it
+pub unfounded-first : (c : ℕ) (cs : List ℕ) (ext : Atoms) (ls : List Line) (S : Atoms) → All (λ m. c ≤ m) cs
+    → Closed (λ a. among a (c ∷ cs)) ext ls S → S c ≡ false → SmallestUnfounded (λ a. among a (c ∷ cs)) ext ls c
+unfounded-first c cs ext ls S h m e = record {
+  unfounded = record { holds = rw (eq-eqb c c refl); outside = λ l. true≢false (sym (l S m) ∙ e) };
+  before = λ b l u. omega (arith, of-member (λ n. c ≤ n) (c ∷ cs) b (omega arith, h) (u .holds));
+}

@@ -1,0 +1,118 @@
+-- The timetable of a readable plan: no time is too late, so it is never 11; it is within the bounds of a timetable, fits the room and reads back. Assumes nothing.
+use Prim.Native.Nat.{ℕ, _+_, _≤_, _<_}
+use mathlib.Core.Path.{_≡_, refl, sym, ap, _∙_}
+use mathlib.Core.Bool.{Bool, true, false}
+use mathlib.Core.List.{List, [], _∷_}
+use mathlib.Core.Logic.{_⊎_, inl, inr}
+use native.Mathlib.Omega.{arith}
+use borrow.Author.Tests.{eqb-true, eqb-false, eq-eqb, ne-eqb, le-leb, le-ltb}
+use lib.Dec.{eqb}
+use lib.ListN.{length, take}
+use lib.Seq.{take-append-seam}
+use Rattle.faults.specs.Answer.{got, refused, pick}
+use Rattle.faults.specs.Marks.{among}
+use Rattle.aspif.specs.Candidate.{AscendingFrom}
+use Rattle.aspif.specs.Words.{AllSmall}
+use Rattle.aspif.proofs.Bounds.{statements-small}
+use Rattle.aspif.proofs.Candidates.{candidate-ascending}
+use Rattle.diffs.specs.Diff.{Diff, Earliest, All}
+use Rattle.diffs.proofs.Latest.{latest as latest-time}
+use Rattle.diffs.proofs.Names.{all-map}
+use Rattle.terms.specs.Says.{Name, Names, Ascending}
+use Rattle.timetable.specs.Table.{Content, tableOf, lastTerm, latest, lastAtom, ascending, inTime, namesOf, within}
+use Rattle.timetable.specs.Times.{timeAmong, timeOf}
+use Rattle.timetable.specs.Given.{recordsOf}
+use Rattle.timetable.proofs.Bounds.{from-within}
+use Rattle.timetable.proofs.RoundTrip.{longest, read-table}
+use Rattle.judge.specs.Plan.{Rooms, Ready, readable, InForce}
+use Rattle.judge.specs.Judged.{over, inTime as timely, table}
+use Rattle.judge.proofs.Small.{SmallDiff, said-small}
+use Rattle.judge.proofs.Readable.{read}
+
+-- ---- names, times and atoms within the bounds
+
+-- names with their times, and atoms
+abbrev pub content : List ℕ → (ℕ → ℕ) → List ℕ → Content
+content ns u cs = record { records = recordsOf ns u; atoms = cs }
+
+names-ascend : (low : ℕ) (ns : List ℕ) (u : ℕ → ℕ) → Ascending ns → All (λ n. n < 1024) ns → All (λ n. low ≤ n) ns
+    → ascending low lastTerm (namesOf (recordsOf ns u)) ≡ true
+unfolding ascending recordsOf
+names-ascend low [] u a b l = refl
+names-ascend low (n ∷ ns) u a b l =
+    rw (le-leb low n (l .0), le-leb n lastTerm (omega (arith, b .0)))
+    (names-ascend (n + 1) ns u (a .1) (b .1) (all-map (λ m. n < m) (λ m. n + 1 ≤ m) (λ m h. omega arith) ns (a .0)))
+
+atoms-ascend : (low : ℕ) (cs : List ℕ) → AscendingFrom low cs → ascending (low + 1) lastAtom cs ≡ true
+unfolding ascending
+atoms-ascend low [] h = refl
+atoms-ascend low (c ∷ cs) h = rw (le-leb (low + 1) c (omega (arith, h .0)), le-leb c lastAtom (h .1)) (atoms-ascend c cs (h .2))
+
+times-within : (ns : List ℕ) (u : ℕ → ℕ) → ((n : ℕ) → u n ≤ latest) → inTime (recordsOf ns u) ≡ true
+unfolding inTime recordsOf
+times-within [] u h = refl
+times-within (n ∷ ns) u h = rw (le-leb (u n) latest (h n)) (times-within ns u h)
+
+none-late : (ns : List ℕ) (u : ℕ → ℕ) → ((n : ℕ) → u n ≤ latest) → timely ns u ≡ got tt
+unfolding timely
+none-late [] u h = refl
+none-late (n ∷ ns) u h = rw (le-ltb 2147483647 (u n) (omega (arith, h n))) (none-late ns u h)
+
+-- the time of a number among records: its own if it is one of the names, else 21
+among-records : (m : ℕ) (ns : List ℕ) (u : ℕ → ℕ) → timeAmong m (recordsOf ns u) ≡ pick (among m ns) (got (u m)) (refused 21 m)
+unfolding timeAmong recordsOf
+among-records m [] u = refl
+among-records m (n ∷ ns) u = go (eqb m n) refl (among-records m ns u)
+  where
+    go : (t : Bool) → eqb m n ≡ t → timeAmong m (recordsOf ns u) ≡ pick (among m ns) (got (u m)) (refused 21 m)
+        → timeAmong m (recordsOf (n ∷ ns) u) ≡ pick (among m (n ∷ ns)) (got (u m)) (refused 21 m)
+    go true e r = let z : m ≡ n = eqb-true m n e in rw (eq-eqb n m (sym z), e, z)
+    go false e r = rw (ne-eqb n m (λ p. eqb-false m n e (sym p)), e) r
+
+module _ (text cand : List ℕ) (b : Rooms) (q : Ready) (e : readable text cand b ≡ got q) where
+  lines-small : AllSmall (q .lines)
+  lines-small = let r = read text cand b q e in statements-small text (q .lines) (r .short) (r .lines)
+
+  -- a difference in force is within the bounds
+  pub in-force-small : (d : Diff) → InForce q d → SmallDiff d
+  in-force-small d f = said-small (q .lines) lines-small (f .atom) d (f .held .says)
+
+  -- a name is below 1,024
+  pub name-small : (n : ℕ) → Name (q .lines) n → n < 1024
+  name-small n h = go (said-small (q .lines) lines-small (h .atom) (h .diff) (h .says)) (h .side)
+    where
+      go : SmallDiff (h .diff) → ((h .diff .x ≡ n) ⊎ (h .diff .y ≡ n)) → n < 1024
+      go s (inl p) = omega (arith, s .first)
+      go s (inr p) = omega (arith, s .second)
+
+  -- an earliest time is at most 1,023,000,000
+  pub earliest-small : (u : ℕ → ℕ) → Earliest (InForce q) u → (n : ℕ) → u n ≤ latest
+  earliest-small u h n =
+      latest-time (InForce q) 1024 1000000 (λ d f. let s = in-force-small d f in (s .first, s .second)) (λ d f. in-force-small d f .low) u h n
+
+  module _ (u : ℕ → ℕ) (h : Earliest (InForce q) u) (ns : List ℕ) (all : Names (q .lines) ns) where
+    -- names, earliest times and atoms are within the bounds of a timetable
+    pub content-within : within (content ns u (q .atoms)) ≡ true
+    content-within =
+        from-within (content ns u (q .atoms))
+        (record {
+          names = names-ascend 0 ns u (all .ascending) (all-map (Name (q .lines)) (λ n. n < 1024) name-small ns (all .only)) (all-map (Name (q .lines)) (λ n. 0 ≤ n) (λ n i. omega arith) ns (all .only));
+          times = times-within ns u (earliest-small u h);
+          atoms = atoms-ascend 0 (q .atoms) (candidate-ascending cand (q .atoms) (read text cand b q e .atoms));
+        })
+
+    -- the timetable is never 11
+    pub table-got : table ns u (q .atoms) ≡ got (tableOf (content ns u (q .atoms)))
+    unfolding table
+    table-got = rw (none-late ns u (earliest-small u h))
+
+    -- it fits the room
+    pub table-fits : length (tableOf (content ns u (q .atoms))) ≤ length (b .room)
+    table-fits = omega (arith, longest (content ns u (q .atoms)) content-within, read text cand b q e .room)
+
+    -- and what is read from the room's first bytes is the time of a name, and 21 for every other number
+    pub reads-back : (m : ℕ) → timeOf (take (length (tableOf (content ns u (q .atoms)))) (over (tableOf (content ns u (q .atoms))) (b .room))) m ≡ pick (among m ns) (got (u m)) (refused 21 m)
+    reads-back m =
+        ap (λ (s : List ℕ). timeOf s m) (take-append-seam (tableOf (content ns u (q .atoms))) _)
+        ∙ read-table (content ns u (q .atoms)) content-within m
+        ∙ among-records m ns u

@@ -1,0 +1,129 @@
+-- What the texts and candidates of the starred cases say: lines, differences and atoms, each computed once. Assumes nothing.
+use Prim.Native.Nat.{ℕ, _+_, _≤_}
+use mathlib.Core.Path.{_≡_, refl}
+use mathlib.Core.List.{List, [], _∷_}
+use lib.Dec.{lit≤}
+use lib.IntN.{pos, negℤ}
+use lib.ListN.{length}
+use Rattle.faults.specs.Answer.{got}
+use Rattle.fields.specs.Fields.{byteAt, byte, bytes, upTo, field, allDigits, isNatural, value, natural, nextNatural, negative, integer, nextInteger, literal, atom, nextAtom, nextTerm, nextElement, char, item, items, counted, stringLength, string}
+use Rattle.aspif.specs.Statements.{positive, negated, single, choice, Statement, rule, numeric, string as stringTerm, compound, element, guarded, Line}
+use Rattle.aspif.specs.Grammar.{lineOf, heads, bodyKind, literals, body, ruleLine, numericLine, stringLine, compoundLine, elementLine, front, guardedLine, theoryType, theoryOf, theoryPart, statementOf, lastLine, lines, noTag, firstLine, plan, statements}
+use Rattle.aspif.specs.Candidate.{atomAbove, ending, ascending, atoms, candidate}
+use Rattle.diffs.specs.Diff.{Diff}
+use Rattle.terms.specs.Says.{term, elementAt, diffWord, minus, atMost}
+use Rattle.terms.specs.Terms.{Stated, taken, allDefined, sameBytes, isString, isMinus, opposite, boundOf, pairOf, pairIn, differenceOf, faulty, differencesFrom, differences}
+use Rattle.judge.specs.Texts.{bytesOf, planP, planQ, planTight, planExternal, planLoop, planOdd}
+
+-- ---- candidates
+
+-- the atoms of the candidates
+pub record Candidates : Type 0 where
+  pub none : candidate (bytesOf "\n") ≡ got []
+  pub one : candidate (bytesOf "1\n") ≡ got (1 ∷ [])
+  pub three : candidate (bytesOf "3\n") ≡ got (3 ∷ [])
+  pub one-two : candidate (bytesOf "1 2\n") ≡ got (1 ∷ 2 ∷ [])
+  pub one-three : candidate (bytesOf "1 3\n") ≡ got (1 ∷ 3 ∷ [])
+  pub two-three : candidate (bytesOf "2 3\n") ≡ got (2 ∷ 3 ∷ [])
+  pub one-two-three : candidate (bytesOf "1 2 3\n") ≡ got (1 ∷ 2 ∷ 3 ∷ [])
+
+-- each is computed
+pub candidates : Candidates
+unfolding candidate atoms ascending ending atomAbove natural field upTo isNatural allDigits value byteAt byte
+candidates = record { none = refl; one = refl; three = refl; one-two = refl; one-three = refl; two-three = refl; one-two-three = refl }
+
+-- ---- texts
+
+-- a text that is short enough, its lines, and the differences that these state
+pub record Says (text : List ℕ) (ls : List Line) (ds : List Stated) : Type 0 where
+  pub short : length text ≤ 60000
+  pub lines : statements text ≡ got ls
+  pub stated : differences ls ≡ got ds
+
+abbrev line : (place : ℕ) → Statement → Line
+line p x = record { place = p; says = x }
+
+-- the time rules of P from the place s on, with the numbers 5 and 8; the line behind each number stands at a and c
+abbrev pub timeRules : (five eight s a c : ℕ) → List Line
+timeRules five eight s a c =
+    line s (stringTerm 0 diffWord)
+    ∷ line (s + 13) (stringTerm 1 minus)
+    ∷ line (s + 23) (stringTerm 2 atMost)
+    ∷ line (s + 34) (stringTerm 3 (bytesOf "send"))
+    ∷ line (s + 47) (stringTerm 4 (bytesOf "recv"))
+    ∷ line (s + 60) (numeric 5 (pos five))
+    ∷ line a (compound 6 (pos 1) (4 ∷ 3 ∷ []))
+    ∷ line (a + 14) (element 0 (6 ∷ []) [])
+    ∷ line (a + 26) (guarded 2 0 (0 ∷ []) 2 5)
+    ∷ line (a + 42) (numeric 8 (pos eight))
+    ∷ line c (compound 9 (pos 1) (8 ∷ []))
+    ∷ line (c + 12) (compound 7 (pos 1) (3 ∷ 4 ∷ []))
+    ∷ line (c + 26) (element 1 (7 ∷ []) [])
+    ∷ line (c + 38) (guarded 3 0 (1 ∷ []) 2 9)
+    ∷ []
+
+-- the lines of P and its neighbours
+abbrev pub linesP : (five eight a c : ℕ) → List Line
+linesP five eight a c =
+    line 10 (rule (choice (1 ∷ [])) [])
+    ∷ line 22 (rule (single 2) (positive 1 ∷ []))
+    ∷ line 36 (rule (single 3) [])
+    ∷ timeRules five eight 48 a c
+
+-- .. without the third line
+abbrev pub linesExternal : List Line
+linesExternal = line 10 (rule (choice (1 ∷ [])) []) ∷ line 22 (rule (single 3) []) ∷ timeRules 40 5 34 103 153
+
+abbrev pub linesLoop : List Line
+linesLoop = line 10 (rule (single 1) (positive 2 ∷ [])) ∷ line 24 (rule (single 2) (positive 1 ∷ [])) ∷ []
+
+abbrev pub linesOdd : List Line
+linesOdd = line 10 (rule (single 1) (negated 1 ∷ [])) ∷ []
+
+-- recv - send ≤ five, and send - recv ≤ - eight
+abbrev pub two : (five : ℕ) → Diff
+two five = record { x = 4; y = 3; k = pos five }
+
+abbrev pub three : (eight : ℕ) → Diff
+three eight = record { x = 3; y = 4; k = negℤ (pos eight) }
+
+-- which the atoms 2 and 3 say
+abbrev pub stated : (five eight : ℕ) → List Stated
+stated five eight = record { atom = 2; says = two five } ∷ record { atom = 3; says = three eight } ∷ []
+
+differences-P : (five eight a c : ℕ) → differences (linesP five eight a c) ≡ got (stated five eight)
+unfolding differences differencesFrom faulty taken term elementAt allDefined sameBytes isString isMinus opposite boundOf pairOf pairIn differenceOf
+differences-P five eight a c = refl
+
+differences-external : differences linesExternal ≡ got (stated 40 5)
+unfolding differences differencesFrom faulty taken term elementAt allDefined sameBytes isString isMinus opposite boundOf pairOf pairIn differenceOf
+differences-external = refl
+
+differences-loop : differences linesLoop ≡ got []
+unfolding differences differencesFrom faulty
+differences-loop = refl
+
+differences-odd : differences linesOdd ≡ got []
+unfolding differences differencesFrom faulty
+differences-odd = refl
+
+-- what each of the texts says
+pub record Texts : Type 0 where
+  pub p : Says planP (linesP 40 5 117 167) (stated 40 5)
+  pub q : Says planQ (linesP 40 45 117 168) (stated 40 45)
+  pub tight : Says planTight (linesP 5 5 116 166) (stated 5 5)
+  pub external : Says planExternal linesExternal (stated 40 5)
+  pub loop : Says planLoop linesLoop []
+  pub odd : Says planOdd linesOdd []
+
+-- each is computed from its bytes
+pub texts : Texts
+unfolding planP planQ planTight planExternal planLoop planOdd byteAt byte bytes upTo field allDigits isNatural value natural nextNatural negative integer nextInteger literal atom nextAtom nextTerm nextElement char item items counted stringLength string lineOf heads bodyKind literals body ruleLine numericLine stringLine compoundLine elementLine front guardedLine theoryType theoryOf theoryPart statementOf lastLine lines noTag firstLine plan statements
+texts = record {
+  p = record { short = lit≤ tt; lines = refl; stated = differences-P 40 5 117 167 };
+  q = record { short = lit≤ tt; lines = refl; stated = differences-P 40 45 117 168 };
+  tight = record { short = lit≤ tt; lines = refl; stated = differences-P 5 5 116 166 };
+  external = record { short = lit≤ tt; lines = refl; stated = differences-external };
+  loop = record { short = lit≤ tt; lines = refl; stated = differences-loop };
+  odd = record { short = lit≤ tt; lines = refl; stated = differences-odd };
+}

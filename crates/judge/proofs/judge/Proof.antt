@@ -1,0 +1,60 @@
+-- `judge::judge` meets its contract: the rooms and the length of the text first. Assumes nothing.
+use borrow.Author.Needs.{needs}
+use borrow.Author.Tests.{lt-ltb, le-ltb}
+use Rattle.judge.specs.Plan.{readable}
+use Rattle.judge.specs.Judged.{unreadable}
+use Rattle.judge.proofs.judge.Statement.{statement}
+use Rattle.judge.proofs.judge.Tie as tie
+
+refuse-requires : tie.Need-refuse-requires
+refuse-requires c κs = search needs
+
+returns : tie.Need-returns
+unfolding readable
+returns c = unreadable 1 24592 (rw (lt-ltb _ _ (c .before .if1 .taken))) (rw (c .refuse .ensures))
+
+refuse-requires-2 : tie.Need-refuse-requires-2
+refuse-requires-2 c κs = search needs
+
+returns-2 : tie.Need-returns-2
+unfolding readable
+returns-2 c = unreadable 1 1024 (rw (le-ltb _ _ (c .before .before .if1 .left), lt-ltb _ _ (c .before .if2 .taken))) (rw (c .refuse2 .ensures))
+
+refuse-requires-3 : tie.Need-refuse-requires-3
+refuse-requires-3 c κs = search needs
+
+returns-3 : tie.Need-returns-3
+unfolding readable
+returns-3 c = unreadable 2 60000 (rw (le-ltb _ _ (c .before .before .before .if1 .left), le-ltb _ _ (c .before .before .if2 .left), lt-ltb _ _ (c .before .if3 .taken))) (rw (c .refuse3 .ensures))
+
+slice-aggregate-planned : tie.Need-slice-aggregate-planned
+slice-aggregate-planned c = search needs
+
+planned-requires : tie.Need-planned-requires
+planned-requires c κs = search needs
+
+same-length : tie.Need-same-length
+same-length c = search needs
+
+same-length-2 : tie.Need-same-length-2
+same-length-2 c = search needs
+
+returns-4 : tie.Need-returns-4
+unfolding readable
+returns-4 c = rw (le-ltb _ _ (c .before .before .before .before .before .before .before .before .before .before .before .if1 .left), le-ltb _ _ (c .before .before .before .before .before .before .before .before .before .before .if2 .left), le-ltb _ _ (c .before .before .before .before .before .before .before .before .before .if3 .left)) (c .before .before .before .before .before .planned .ensures)
+
+pub judge-spec : {M : Type 1} → statement M
+judge-spec =
+    tie.close
+    (tie.spec
+    refuse-requires
+    returns
+    refuse-requires-2
+    returns-2
+    refuse-requires-3
+    returns-3
+    slice-aggregate-planned
+    planned-requires
+    same-length
+    same-length-2
+    returns-4)

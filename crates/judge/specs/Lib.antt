@@ -1,0 +1,10 @@
+-- The definitions that the contracts cite, and what is proved of them.
+pub mod Plan
+pub mod Judged
+pub mod Shown
+pub mod Values
+pub mod Demand2
+pub mod Demand1
+pub mod Texts
+pub mod Starred
+pub mod Stages

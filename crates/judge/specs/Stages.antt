@@ -1,0 +1,122 @@
+-- Internal: what is known between the stages of the judge. Nothing here is needed to read what the judge promises.
+use Prim.Native.Nat.{ℕ, zero, suc, _≤_, _<_}
+use mathlib.Core.Path.{_≡_}
+use mathlib.Core.Bool.{Bool, false, _||_}
+use mathlib.Core.List.{List, [], _∷_, map}
+use lib.Dec.{eqb}
+use lib.IntN.{ℤ, pos}
+use lib.ListN.{length, getD}
+use Rattle.faults.specs.Answer.{got, pick}
+use Rattle.faults.specs.Marks.{isMarked, markedFrom}
+use Rattle.aspif.specs.Statements.{Line}
+use Rattle.aspif.specs.Words.{word, Between, AllSmall, linesOf, Taped}
+use Rattle.aspif.specs.Candidate.{atomsOf}
+use Rattle.diffs.specs.Diff.{Diff, Earliest, All, Distinct}
+use Rattle.terms.specs.Terms.{Stated, differences, SmallDiff}
+use Rattle.terms.specs.Tables.{firsts, heldAt}
+use Rattle.terms.specs.Values.{Roomy}
+use Rattle.judge.specs.Plan.{Rooms, Ready}
+use Rattle.judge.specs.Judged.{Result, refusal, accepting, table}
+use Rattle.diffs.specs.Answer as diffs
+use Rattle.timetable.specs.Given as timetable
+
+-- the first m differences of four slices
+abbrev pub stated : (m : ℕ) (atoms xs ys : List ℕ) → List ℤ → List Stated
+stated m atoms xs ys ks = firsts m (heldAt atoms xs ys ks)
+
+-- the lines ls keep to their bounds, and the first m places of four slices have the differences that they state
+pub record Stating (ls : List Line) (m : ℕ) (atoms xs ys : List ℕ) (ks : List ℤ) : Type 0 where
+  pub small : AllSmall ls
+  pub stated : differences ls ≡ got (stated m atoms xs ys ks)
+  pub roomy : Roomy atoms xs ys ks
+
+-- n lines stand on a tape, and the first m places of four slices have the differences that they state
+pub record Planned (tape : List ℕ) (n : ℕ) (atoms xs ys : List ℕ) (ks : List ℤ) (m : ℕ) : Type 0 where
+  pub taped : Taped tape n
+  pub short : length tape ≤ 60000
+  pub stating : Stating (linesOf tape n) m atoms xs ys ks
+
+-- a bitmap of the atoms of a candidate
+pub record Candidate (x : List ℕ) : Type 0 where
+  pub places : length x ≡ 4097
+  pub none : isMarked x 0 ≡ false
+
+-- rooms that are long enough
+pub record Sized (room cycle : List ℕ) : Type 0 where
+  pub bytes : 24592 ≤ length room
+  pub places : 1024 ≤ length cycle
+
+-- the plan of lines and of a candidate's atoms, and of a candidate's bitmap
+abbrev pub ready : List Line → (atoms : List ℕ) → Ready
+ready ls cs = record { lines = ls; atoms = cs }
+
+abbrev pub readyAt : List Line → (x : List ℕ) → Ready
+readyAt ls x = ready ls (atomsOf x)
+
+-- ---- the differences in force
+
+-- an atom to 4,096, and a difference within its bounds
+abbrev pub SmallStated : Stated → Type 0
+SmallStated s = SmallDiff (s .says) × (s .atom < 4097)
+
+-- the first m places of four slices have differences within their bounds, of different atoms
+pub record Filled (m : ℕ) (atoms xs ys : List ℕ) (ks : List ℤ) : Type 0 where
+  pub few : m ≤ 4097
+  pub roomy : Roomy atoms xs ys ks
+  pub small : All SmallStated (stated m atoms xs ys ks)
+  pub differ : Distinct (map (λ (s : Stated). s .atom) (stated m atoms xs ys ks))
+
+-- those whose atom is marked
+unfoldable pub inForce : (x : List ℕ) → List Stated → List Stated
+inForce x [] = []
+inForce x (s ∷ ds) = pick (isMarked x (s .atom)) (s ∷ inForce x ds) (inForce x ds)
+
+-- four slices of 4,097 places
+pub record Places (labels xs ys : List ℕ) (ks : List ℤ) : Type 0 where
+  pub for-labels : length labels ≡ 4097
+  pub for-xs : length xs ≡ 4097
+  pub for-ys : length ys ≡ 4097
+  pub for-ks : length ks ≡ 4097
+
+-- the first n places of four slices have the differences ds, at most m
+pub record Gathered (m : ℕ) (ds : List Stated) (n : ℕ) (labels xs ys : List ℕ) (ks : List ℤ) : Type 0 where
+  pub few : n ≤ m
+  pub is : stated n labels xs ys ks ≡ ds
+
+-- ---- the names
+
+-- n is x or y of one of the first m differences
+unfoldable pub named : (m : ℕ) (xs ys : List ℕ) → ℕ → Bool
+named zero xs ys n = false
+named (suc m) xs ys n = (eqb n (word xs m) || eqb n (word ys m)) || named m xs ys n
+
+-- the first m places of two slices have term numbers
+pub record Sides (m : ℕ) (xs ys : List ℕ) : Type 0 where
+  pub for-xs : m ≤ length xs
+  pub for-ys : m ≤ length ys
+  pub small : (j : ℕ) → j < m → (word xs j < 1024) × (word ys j < 1024)
+
+-- a bitmap of the term numbers that marks none
+pub record Unmarked (names : List ℕ) : Type 0 where
+  pub places : length names ≡ 1024
+  pub clear : (n : ℕ) → getD names n 0 ≡ 0
+
+-- ---- the times
+
+-- what the writer of the timetable takes
+pub record Writable (names times x room : List ℕ) : Type 0 where
+  pub sized : timetable.Sized names times x room
+  pub timely : timetable.Timely names times
+
+-- differences with a label each, within the bounds
+pub record Labelled (labels xs ys : List ℕ) (ks : List ℤ) : Type 0 where
+  pub slices : diffs.Slices 1024 xs ys ks
+  pub labels-length : length labels ≡ length ks
+  pub bounded : (j : ℕ) → j < length ks → Between 1000000 1000000 (getD ks j (pos 0))
+
+-- of the differences c 0, .., c (n - 1): a negative cycle is shown, or the names' earliest times and the atoms are written, or 11
+pub data Settled (n : ℕ) (c : ℕ → Diff) (labels names x : List ℕ) (b : Rooms) (r : Result) : Type 0 where
+  shown : (k : ℕ) (cycle : List ℕ) → diffs.Shown n c labels (b .cycle) cycle k
+      → r ≡ record { verdict = refusal 10 k; rooms = record { room = b .room; cycle = cycle } } → Settled n c labels names x b r
+  written : (u : ℕ → ℕ) → Earliest (diffs.Among n c) u
+      → r ≡ accepting b (table (markedFrom 0 names) u (markedFrom 1 x)) → Settled n c labels names x b r

@@ -1,0 +1,170 @@
+// From the differences that the lines state and a candidate to 10, 11 or the timetable.
+ghost use mathlib.Core.Path.{_≡_};
+ghost use mathlib.Core.List.{List};
+ghost use Prim.Native.Nat.{ℕ};
+ghost use lib.ListN.{length};
+ghost use Rattle.faults.specs.Marks.{isMarked, markedFrom};
+ghost use Rattle.aspif.specs.Statements.{Line};
+ghost use Rattle.diffs.specs.Answer.{diffAt};
+ghost use Rattle.timetable.specs.Given.{timeAt};
+ghost use Rattle.judge.specs.Judged.{inTime, table, accepting, Timed};
+ghost use Rattle.judge.specs.Values.{asPassed, rooms, result};
+ghost use Rattle.judge.specs.Stages.{stated, Stating, Candidate, Sized, readyAt, Filled, inForce, Places, Gathered};
+ghost use Rattle.judge.specs.Stages.{named, Sides, Unmarked, Writable, Labelled, Settled};
+use crate::Verdict;
+use diffs::Outcome;
+use faults::Kind;
+use faults::Refusal;
+use faults::Step;
+
+// The latest time that may be written.
+const LATEST: u64 = 2147483647;
+
+// How many of the first m differences have an atom in x: these stand in the first places of four rooms.
+fn gather(
+    atoms: &[u32],
+    xs: &[u32],
+    ys: &[u32],
+    ks: &[i32],
+    m: usize,
+    x: &[u8],
+    labels: &mut [u32],
+    gxs: &mut [u32],
+    gys: &mut [u32],
+    gks: &mut [i32],
+) -> usize
+    requires { ⌜ Filled m (now atoms) (now xs) (now ys) (now ks) × Candidate (now x) ⌝ }
+    requires { ⌜ Places (now labels) (now gxs) (now gys) (now gks) ⌝ }
+    ensures { λ r. ⌜ Gathered m (inForce (now (x .entry)) (stated m (now (atoms .entry)) (now (xs .entry)) (now (ys .entry)) (now (ks .entry)))) r (now (labels .exit)) (now (gxs .exit)) (now (gys .exit)) (now (gks .exit)) ⌝ }
+{
+    let mut n = 0;
+    let mut i = 0;
+    while i < m {
+        let here = i;
+        i += 1;
+        let a = atoms[here];
+        let at = a as usize;
+        if x[at] != 1 {
+            continue;
+        }
+        labels[n] = a;
+        gxs[n] = xs[here];
+        gys[n] = ys[here];
+        gks[n] = ks[here];
+        n += 1;
+    }
+    n
+}
+
+// Marks the names of the first m differences, in force or not, in a bitmap that marks none.
+fn mark_names(xs: &[u32], ys: &[u32], m: usize, names: &mut [u8])
+    requires { ⌜ Sides m (now xs) (now ys) × Unmarked (now names) ⌝ }
+    ensures { λ _. ⌜ ((n : ℕ) → isMarked (now (names .exit)) n ≡ named m (now (xs .entry)) (now (ys .entry)) n) ⌝ }
+{
+    let mut i = 0;
+    while i < m {
+        let x = xs[i] as usize;
+        names[x] = 1;
+        let y = ys[i] as usize;
+        names[y] = 1;
+        i += 1;
+    }
+}
+
+// 11 with the smallest marked name whose time is above the latest, or nothing.
+fn late(names: &[u8], times: &[u64]) -> Step
+    requires { ⌜ length (now names) ≡ length (now times) ⌝ }
+    ensures { λ r. ⌜ asPassed r ≡ inTime (markedFrom 0 (now (names .entry))) (timeAt (now (times .entry))) ⌝ }
+{
+    let mut i = 0;
+    while i < names.len() {
+        let here = i;
+        i += 1;
+        if names[here] != 1 {
+            continue;
+        }
+        if times[here] <= LATEST {
+            continue;
+        }
+        return Step::Refused(Refusal {
+            kind: Kind::Late,
+            place: here,
+        });
+    }
+    Step::Good(0)
+}
+
+// 11, or the timetable of the marked names with their times and of the atoms of x, written into the room.
+fn written(names: &[u8], times: &[u64], x: &[u8], room: &mut [u8]) -> Verdict
+    requires { ⌜ Writable (now names) (now times) (now x) (now room) ⌝ }
+    ensures { λ r. ⌜ ((cycle : List ℕ) → result r (now (room .exit)) cycle ≡ accepting (rooms (now (room .entry)) cycle) (table (markedFrom 0 (now (names .entry))) (timeAt (now (times .entry))) (markedFrom 1 (now (x .entry))))) ⌝ }
+{
+    let s = late(names, times);
+    let Step::Good(_) = s else {
+        return Verdict::Refused(s.refusal());
+    };
+    let n = timetable::write(room, names, times, x);
+    Verdict::Accepted(n)
+}
+
+// 10 with a negative cycle of the differences; or 11 or the timetable of their earliest times.
+fn settled(
+    labels: &[u32],
+    xs: &[u32],
+    ys: &[u32],
+    ks: &[i32],
+    names: &[u8],
+    x: &[u8],
+    room: &mut [u8],
+    cycle: &mut [u32],
+) -> Verdict
+    requires { ⌜ Labelled (now labels) (now xs) (now ys) (now ks) × (length (now names) ≡ 1024) ⌝ }
+    requires { ⌜ Candidate (now x) × Sized (now room) (now cycle) ⌝ }
+    ensures { λ r. ⌜ Settled (length (now (ks .entry))) (diffAt (now (xs .entry)) (now (ys .entry)) (now (ks .entry))) (now (labels .entry)) (now (names .entry)) (now (x .entry)) (rooms (now (room .entry)) (now (cycle .entry))) (result r (now (room .exit)) (now (cycle .exit))) ⌝ }
+{
+    let mut times = [0u64; 1024];
+    let o = diffs::decide(xs, ys, ks, labels, &mut times, cycle);
+    let Outcome::Cycle(k) = o else {
+        return written(names, &times, x, room);
+    };
+    let place = k as usize;
+    Verdict::Refused(Refusal {
+        kind: Kind::Cycle,
+        place,
+    })
+}
+
+// 10, 11 or the timetable: of the first m differences, those with an atom in x are in force.
+pub fn timed(
+    atoms: &[u32],
+    xs: &[u32],
+    ys: &[u32],
+    ks: &[i32],
+    m: usize,
+    x: &[u8],
+    room: &mut [u8],
+    cycle: &mut [u32],
+) -> Verdict
+    requires { ⌜ Filled m (now atoms) (now xs) (now ys) (now ks) × Candidate (now x) ⌝ }
+    requires { ⌜ Sized (now room) (now cycle) ⌝ }
+    ensures { λ r. ⌜ ((ls : List Line) → Stating ls m (now (atoms .entry)) (now (xs .entry)) (now (ys .entry)) (now (ks .entry)) → Timed (readyAt ls (now (x .entry))) (rooms (now (room .entry)) (now (cycle .entry))) (result r (now (room .exit)) (now (cycle .exit)))) ⌝ }
+{
+    let mut names = [0u8; 1024];
+    mark_names(xs, ys, m, &mut names);
+    // The labels, the sides and the bounds of those in force.
+    let mut ls = [0u32; 4097];
+    let mut us = [0u32; 4097];
+    let mut vs = [0u32; 4097];
+    let mut ws = [0i32; 4097];
+    let n = gather(atoms, xs, ys, ks, m, x, &mut ls, &mut us, &mut vs, &mut ws);
+    settled(
+        &ls[..n],
+        &us[..n],
+        &vs[..n],
+        &ws[..n],
+        &names,
+        x,
+        room,
+        cycle,
+    )
+}
