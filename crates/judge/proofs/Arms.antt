@@ -76,10 +76,11 @@ each P (u ∷ v ∷ ts) a t (inr h) = each P (v ∷ ts) (a .1) t h
 arm : (f : ℕ → Bool) (b : Bool) (ts : List ℕ) → All (λ t. b ≡ f (getD numbers t 0)) ts → (k : Kind) → OneOf ts (tag k) → b ≡ f (number k)
 arm f b ts a k h = each (λ t. b ≡ f (getD numbers t 0)) ts a (tag k) h ∙ ap f (in-order k)
 
--- the kinds whose place is in the text, and the others
+-- the kinds whose place is in the text
 pub text-arm : (k : Kind) → OneOf (2 ∷ 3 ∷ 4 ∷ 5 ∷ 7 ∷ []) (tag k) → true ≡ inText (number k)
 text-arm = arm inText true (2 ∷ 3 ∷ 4 ∷ 5 ∷ 7 ∷ []) (refl, (refl, (refl, (refl, (refl, tt)))))
 
+-- the kinds whose place is not in the text
 pub text-other : (k : Kind) → OneOf (0 ∷ 1 ∷ 6 ∷ 8 ∷ 9 ∷ 10 ∷ 11 ∷ 12 ∷ []) (tag k) → false ≡ inText (number k)
 text-other = arm inText false (0 ∷ 1 ∷ 6 ∷ 8 ∷ 9 ∷ 10 ∷ 11 ∷ 12 ∷ []) (refl, (refl, (refl, (refl, (refl, (refl, (refl, (refl, tt))))))))
 

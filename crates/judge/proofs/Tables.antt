@@ -19,6 +19,7 @@ use Rattle.diffs.specs.Diff.{Diff, Earliest, All}
 use Rattle.diffs.proofs.Latest.{latest as latest-time}
 use Rattle.diffs.proofs.Names.{all-map}
 use Rattle.terms.specs.Says.{Name, Names, Ascending}
+use Rattle.terms.specs.Terms.{SmallDiff}
 use Rattle.timetable.specs.Table.{Content, tableOf, lastTerm, latest, lastAtom, ascending, inTime, namesOf, within}
 use Rattle.timetable.specs.Times.{timeAmong, timeOf}
 use Rattle.timetable.specs.Given.{recordsOf}
@@ -26,7 +27,7 @@ use Rattle.timetable.proofs.Bounds.{from-within}
 use Rattle.timetable.proofs.RoundTrip.{longest, read-table}
 use Rattle.judge.specs.Plan.{Rooms, Ready, readable, InForce}
 use Rattle.judge.specs.Judged.{over, inTime as timely, table}
-use Rattle.judge.proofs.Small.{SmallDiff, said-small}
+use Rattle.judge.proofs.Small.{said-small, bound-low}
 use Rattle.judge.proofs.Readable.{read}
 
 -- ---- names, times and atoms within the bounds
@@ -82,13 +83,13 @@ module _ (text cand : List ℕ) (b : Rooms) (q : Ready) (e : readable text cand 
   name-small n h = go (said-small (q .lines) lines-small (h .atom) (h .diff) (h .says)) (h .side)
     where
       go : SmallDiff (h .diff) → ((h .diff .x ≡ n) ⊎ (h .diff .y ≡ n)) → n < 1024
-      go s (inl p) = omega (arith, s .first)
-      go s (inr p) = omega (arith, s .second)
+      go s (inl p) = omega (arith, s .x-small)
+      go s (inr p) = omega (arith, s .y-small)
 
   -- an earliest time is at most 1,023,000,000
   pub earliest-small : (u : ℕ → ℕ) → Earliest (InForce q) u → (n : ℕ) → u n ≤ latest
   earliest-small u h n =
-      latest-time (InForce q) 1024 1000000 (λ d f. let s = in-force-small d f in (s .first, s .second)) (λ d f. in-force-small d f .low) u h n
+      latest-time (InForce q) 1024 1000000 (λ d f. let s = in-force-small d f in (s .x-small, s .y-small)) (λ d f. bound-low d (in-force-small d f)) u h n
 
   module _ (u : ℕ → ℕ) (h : Earliest (InForce q) u) (ns : List ℕ) (all : Names (q .lines) ns) where
     -- names, earliest times and atoms are within the bounds of a timetable

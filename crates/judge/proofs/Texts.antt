@@ -74,16 +74,19 @@ linesP five eight a c =
 abbrev pub linesExternal : List Line
 linesExternal = line 10 (rule (choice (1 ∷ [])) []) ∷ line 22 (rule (single 3) []) ∷ timeRules 40 5 34 103 153
 
+-- rules 1 from 2 and 2 from 1
 abbrev pub linesLoop : List Line
 linesLoop = line 10 (rule (single 1) (positive 2 ∷ [])) ∷ line 24 (rule (single 2) (positive 1 ∷ [])) ∷ []
 
+-- the rule 1 from not 1
 abbrev pub linesOdd : List Line
 linesOdd = line 10 (rule (single 1) (negated 1 ∷ [])) ∷ []
 
--- recv - send ≤ five, and send - recv ≤ - eight
+-- recv - send ≤ five
 abbrev pub two : (five : ℕ) → Diff
 two five = record { x = 4; y = 3; k = pos five }
 
+-- send - recv ≤ - eight
 abbrev pub three : (eight : ℕ) → Diff
 three eight = record { x = 3; y = 4; k = negℤ (pos eight) }
 

@@ -45,6 +45,7 @@ UnfoundedAt q a = SmallestUnfounded (holds q) (external (q .lines)) (q .lines) a
 
 -- ---- of the result
 
+-- the verdict is an acceptance
 pub record Accepted (r : Result) : Type 0 where
   pub length : ℕ
   pub is : r .verdict ≡ acceptance length

@@ -4,6 +4,8 @@ pub mod Judged
 pub mod Shown
 pub mod Values
 pub mod Demand2
+pub mod Later
+pub mod Demand3
 pub mod Demand1
 pub mod Texts
 pub mod Starred

@@ -1,0 +1,68 @@
+-- P and Q with one further time rule are later plans of P and Q: the relation of demand 3. Assumes nothing.
+use Prim.Native.Nat.{ℕ}
+use mathlib.Core.Path.{_≡_, refl, sym}
+use mathlib.Core.Bool.{Bool, true, false, _&&_, not}
+use mathlib.Core.Logic.{inl, inr}
+use mathlib.Core.List.{List, [], _∷_, _++_}
+use lib.IntN.{pos}
+use Rattle.faults.specs.Marks.{among}
+use Rattle.aspif.specs.Statements.{Statement, Line}
+use Rattle.terms.specs.Terms.{taken}
+use Rattle.judge.specs.Plan.{Ready}
+use Rattle.judge.specs.Later.{atoms, terms, elements, Unused, Added, a-number, a-compound, an-element, an-atom, a-fact, Grown, none, keep, add, Later}
+use Rattle.judge.proofs.Texts.{linesP}
+use Rattle.further.proofs.Lists.{and-both, among-joined}
+use Rattle.further.proofs.Texts.{linesWith}
+
+-- ---- unused numbers by a test
+
+unusedIn : (kind : Statement → List ℕ) → List Line → ℕ → Bool
+unusedIn kind [] n = true
+unusedIn kind (l ∷ ls) n = not (among n (kind (l .says))) && unusedIn kind ls n
+
+not-in : (t : Bool) → not t ≡ true → t ≡ false
+not-in true e = sym e
+not-in false e = refl
+
+unused-so : (kind : Statement → List ℕ) (ls : List Line) (n : ℕ) → unusedIn kind ls n ≡ true → Unused kind ls n
+unfolding unusedIn
+unused-so kind [] n e = tt
+unused-so kind (l ∷ ls) n e =
+    let h = and-both (not (among n (kind (l .says)))) (unusedIn kind ls n) e in
+    (not-in (among n (kind (l .says))) (h .0), unused-so kind ls n (h .1))
+
+-- ---- the relation
+
+-- P, or Q, with a candidate
+abbrev pub old : (eight c : ℕ) → List ℕ → Ready
+old eight c cs = record { lines = linesP 40 eight 117 c; atoms = cs }
+
+-- with the further rule
+abbrev pub new : (eight c w n : ℕ) → List ℕ → Ready
+new eight c w n cs = record { lines = linesWith eight c w n; atoms = cs }
+
+module _ (eight c c′ w n : ℕ) where
+  with-lines : Grown (Added (linesP 40 eight 117 c) (4 ∷ [])) (linesP 40 eight 117 c) (linesWith eight c′ w n)
+  unfolding unusedIn
+  with-lines =
+      keep _ _ refl
+      (add _ (a-fact 4 refl)
+      (keep _ _ refl (keep _ _ refl (keep _ _ refl (keep _ _ refl (keep _ _ refl (keep _ _ refl (keep _ _ refl (keep _ _ refl
+      (keep _ _ refl (keep _ _ refl (keep _ _ refl (keep _ _ refl (keep _ _ refl (keep _ _ refl (keep _ _ refl (keep _ _ refl
+      (add _ (a-number 10 (pos w) (unused-so terms (linesP 40 eight 117 c) 10 refl))
+      (add _ (a-compound 11 (pos 1) (10 ∷ []) (unused-so terms (linesP 40 eight 117 c) 11 refl))
+      (add _ (an-element 2 (7 ∷ []) [] (unused-so elements (linesP 40 eight 117 c) 2 refl))
+      (add _ (an-atom 4 0 (2 ∷ []) 2 11 refl)
+      none)))))))))))))))))))))
+
+  -- with every candidate that has not atom 4, the plan with the further rule is a later plan
+  pub later : (cs : List ℕ) → among 4 cs ≡ false → Later (old eight c cs) (new eight c′ w n (cs ++ (4 ∷ []))) (4 ∷ [])
+  unfolding unusedIn taken
+  later cs h = record {
+    lines = with-lines;
+    stated = (refl, tt);
+    facts = (inr (inl refl), tt);
+    unused = (unused-so atoms (linesP 40 eight 117 c) 4 refl, tt);
+    outside = (h, tt);
+    candidate = λ a. among-joined a cs (4 ∷ []);
+  }

@@ -1,0 +1,1 @@
+-- No definitions: the statement is the judge's, `Demand3`.
