@@ -9,17 +9,13 @@ use lib.Seq.{length-take-le}
 use Rattle.aspif.specs.Candidate.{Blank}
 use Rattle.diffs.specs.Answer.{Given}
 use Rattle.terms.specs.Values.{Roomy}
-use Rattle.judge.specs.Stages.{Places, Labelled, Unmarked}
+use Rattle.judge.specs.Stages.{Places, Labelled}
 
 -- zeros, and 0 past their end
 zeros : (n i : ℕ) → _≡_ {A = ℕ} (getD (replicate n 0) i 0) 0
 zeros zero i = refl
 zeros (suc n) zero = refl
 zeros (suc n) (suc i) = zeros n i
-
--- a bitmap of zeros marks no name
-pub blank-names : Unmarked (replicate 1024 0)
-blank-names = record { places = length-replicate {A = ℕ} 1024 0; clear = zeros 1024 }
 
 -- four rooms of zeros have their places
 pub blank-places : Places (replicate 4097 0) (replicate 4097 0) (replicate 4097 0) (replicate 4097 (pos 0))

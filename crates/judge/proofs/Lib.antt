@@ -15,7 +15,6 @@ pub mod Starred
 pub mod Firsts
 pub mod Few
 pub mod Gathering
-pub mod Naming
 pub mod Lateness
 pub mod Blank
 pub mod Writing

@@ -1,11 +1,12 @@
 -- 10, or 11 or the timetable: what the cycle or the earliest times of the differences gathered say of the plan.
 use Prim.Native.Nat.{ℕ, _<_}
 use mathlib.Core.Path.{_≡_, refl, ap, _∙_}
+use mathlib.Core.Bool.{_||_}
 use mathlib.Core.List.{List, [], _∷_, map}
 use native.Mathlib.Omega.{arith}
 use lib.IntN.{ℤ}
 use lib.ListN.{take, length-map}
-use Rattle.faults.specs.Marks.{isMarked, markedFrom}
+use Rattle.faults.specs.Marks.{among, markedFrom}
 use Rattle.aspif.specs.Statements.{Line}
 use Rattle.diffs.specs.Diff.{Diff, All, Earliest}
 use Rattle.diffs.specs.Answer.{at, diffAt, Among, Shown, Decided}
@@ -14,10 +15,13 @@ use Rattle.timetable.specs.Given.{timeAt}
 use Rattle.judge.specs.Plan.{Rooms, Ready, Held, InForce}
 use Rattle.judge.specs.Judged.{Result, accepting, showing, table, Each, NegativeCycle, Timed}
 use Rattle.judge.specs.Values.{rooms, result}
-use Rattle.judge.specs.Stages.{stated, Stating, Candidate, readyAt, inForce, Gathered, named, Settled, shown, written}
+use Rattle.terms.specs.Marks.{Marks}
+use Rattle.terms.proofs.Naming.{names-are}
+use Rattle.judge.proofs.Said.{stating-filled}
+use Rattle.judge.specs.Stages.{stated, Stating, Candidate, readyAt, inForce, Filled, Gathered, Settled, shown, written}
 use Rattle.judge.specs.declared.Verdict.{Verdict}
 use Rattle.judge.specs.declared.Verdict.the-variants.{Refused}
-use Rattle.judge.proofs.Bitmaps.{marked-names, marked-atoms}
+use Rattle.judge.proofs.Bitmaps.{marked-atoms}
 use Rattle.judge.proofs.Forced.{cut-held, among-force, force-among}
 use Rattle.faults.specs.declared.Kind.the-variants as kind
 use Rattle.diffs.specs.declared.Outcome.the-variants as outcome
@@ -85,9 +89,13 @@ shown-room b n c labels cycle k s = rw (length-map (s .numbers) (at labels), s .
 module _ (ls : List Line) (m : ℕ) (atoms xs ys : List ℕ) (ks : List ℤ) (h : Stating ls m atoms xs ys ks)
     (x : List ℕ) (cand : Candidate x) (n : ℕ) (labels gxs gys : List ℕ) (gks : List ℤ)
     (g : Gathered m (inForce x (stated m atoms xs ys ks)) n labels gxs gys gks)
-    (names : List ℕ) (e : (i : ℕ) → isMarked names i ≡ named m xs ys i) (b : Rooms) (r : Result) where
+    (names : List ℕ) (e : Marks 1024 names (λ i. among i (take m xs) || among i (take m ys))) (b : Rooms) (r : Result) where
+  filled : Filled m atoms xs ys ks
+  filled = stating-filled ls m atoms xs ys ks h
+
   -- 10, 11 or the timetable of the plan
   pub settled-timed : (k : ℕ) → k ≡ n → Settled k (diffAt (take n gxs) (take n gys) (take n gks)) (take n labels) names x b r → Timed (readyAt ls x) b r
+  unfolding markedFrom
   settled-timed k z (shown j cycle s q) =
       judged.cyclic (map (at (take n labels)) (s .numbers))
       (shown-cycle (readyAt ls x) k _ _ _ _ _ (λ i l. cut-held ls m atoms xs ys ks h x n labels gxs gys gks g i (omega arith)) s)
@@ -97,4 +105,4 @@ module _ (ls : List Line) (m : ℕ) (atoms xs ys : List ℕ) (ks : List ℤ) (h 
       (earliest-same (Among k _) (InForce (readyAt ls x)) u
       (λ d w. among-force ls m atoms xs ys ks h x n labels gxs gys gks g d (rw z at w))
       (λ d w. rw z (force-among ls m atoms xs ys ks h x n labels gxs gys gks g d w)) t)
-      (markedFrom 0 names) (marked-names ls m atoms xs ys ks h names e) (rw (marked-atoms x (cand .none)) at q)
+      (markedFrom 0 names) (names-are ls atoms xs ys ks m (h .stated) names (h .small) (omega (arith, filled .few, h .roomy .for-xs)) (omega (arith, filled .few, h .roomy .for-ys)) e) (rw (marked-atoms x (cand .none)) at q)

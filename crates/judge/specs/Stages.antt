@@ -1,15 +1,14 @@
 -- Internal: what is known between the stages of the judge. Nothing here is needed to read what the judge promises.
-use Prim.Native.Nat.{ℕ, zero, suc, _≤_, _<_}
+use Prim.Native.Nat.{ℕ, _≤_, _<_}
 use mathlib.Core.Path.{_≡_}
-use mathlib.Core.Bool.{Bool, false, _||_}
+use mathlib.Core.Bool.{false}
 use mathlib.Core.List.{List, [], _∷_, map}
-use lib.Dec.{eqb}
 use lib.IntN.{ℤ, pos}
 use lib.ListN.{length, getD}
 use Rattle.faults.specs.Answer.{got, pick}
 use Rattle.faults.specs.Marks.{isMarked, markedFrom}
 use Rattle.aspif.specs.Statements.{Line}
-use Rattle.aspif.specs.Words.{word, Between, AllSmall, linesOf, Taped}
+use Rattle.aspif.specs.Words.{Between, AllSmall, linesOf, Taped}
 use Rattle.aspif.specs.Candidate.{atomsOf}
 use Rattle.diffs.specs.Diff.{Diff, Earliest, All, Distinct}
 use Rattle.terms.specs.Terms.{Stated, differences, SmallDiff}
@@ -82,24 +81,6 @@ pub record Places (labels xs ys : List ℕ) (ks : List ℤ) : Type 0 where
 pub record Gathered (m : ℕ) (ds : List Stated) (n : ℕ) (labels xs ys : List ℕ) (ks : List ℤ) : Type 0 where
   pub few : n ≤ m
   pub is : stated n labels xs ys ks ≡ ds
-
--- ---- the names
-
--- n is x or y of one of the first m differences
-unfoldable pub named : (m : ℕ) (xs ys : List ℕ) → ℕ → Bool
-named zero xs ys n = false
-named (suc m) xs ys n = (eqb n (word xs m) || eqb n (word ys m)) || named m xs ys n
-
--- the first m places of two slices have term numbers
-pub record Sides (m : ℕ) (xs ys : List ℕ) : Type 0 where
-  pub for-xs : m ≤ length xs
-  pub for-ys : m ≤ length ys
-  pub small : (j : ℕ) → j < m → (word xs j < 1024) × (word ys j < 1024)
-
--- a bitmap of the term numbers that marks none
-pub record Unmarked (names : List ℕ) : Type 0 where
-  pub places : length names ≡ 1024
-  pub clear : (n : ℕ) → getD names n 0 ≡ 0
 
 -- ---- the times
 

@@ -3,19 +3,20 @@ ghost use mathlib.Core.Path.{_≡_};
 ghost use mathlib.Core.List.{List};
 ghost use Prim.Native.Nat.{ℕ};
 ghost use lib.ListN.{length};
-ghost use Rattle.faults.specs.Marks.{isMarked, markedFrom};
+ghost use Rattle.faults.specs.Marks.{markedFrom};
 ghost use Rattle.aspif.specs.Statements.{Line};
 ghost use Rattle.diffs.specs.Answer.{diffAt};
 ghost use Rattle.timetable.specs.Given.{timeAt};
 ghost use Rattle.judge.specs.Judged.{inTime, table, accepting, Timed};
 ghost use Rattle.judge.specs.Values.{asPassed, rooms, result};
 ghost use Rattle.judge.specs.Stages.{stated, Stating, Candidate, Sized, readyAt, Filled, inForce, Places, Gathered};
-ghost use Rattle.judge.specs.Stages.{named, Sides, Unmarked, Writable, Labelled, Settled};
+ghost use Rattle.judge.specs.Stages.{Writable, Labelled, Settled};
 use crate::Verdict;
 use diffs::Outcome;
 use faults::Kind;
 use faults::Refusal;
 use faults::Step;
+use terms::marks::mark_names;
 
 // The latest time that may be written.
 const LATEST: u64 = 2147483647;
@@ -54,21 +55,6 @@ fn gather(
         n += 1;
     }
     n
-}
-
-// Marks the names of the first m differences, in force or not, in a bitmap that marks none.
-fn mark_names(xs: &[u32], ys: &[u32], m: usize, names: &mut [u8])
-    requires { ⌜ Sides m (now xs) (now ys) × Unmarked (now names) ⌝ }
-    ensures { λ _. ⌜ ((n : ℕ) → isMarked (now (names .exit)) n ≡ named m (now (xs .entry)) (now (ys .entry)) n) ⌝ }
-{
-    let mut i = 0;
-    while i < m {
-        let x = xs[i] as usize;
-        names[x] = 1;
-        let y = ys[i] as usize;
-        names[y] = 1;
-        i += 1;
-    }
 }
 
 // 11 with the smallest marked name whose time is above the latest, or nothing.

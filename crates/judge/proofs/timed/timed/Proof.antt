@@ -1,12 +1,13 @@
 -- `timed`: the parts of the rooms that `gather` filled are the differences in force, whatever lines state them.
 use Prim.Native.Nat.{ℕ}
 use mathlib.Core.Path.{sym, _∙_}
+use native.Mathlib.Omega.{arith}
 use borrow.Author.Needs.{needs}
 use lib.IntN.{pos}
 use lib.ListN.{length-replicate}
-use Rattle.judge.proofs.Blank.{blank-names, blank-places, kept-places, part-long}
+use Rattle.judge.proofs.Blank.{blank-places, kept-places, part-long}
 use Rattle.judge.proofs.Gathering.{gathered-labelled}
-use Rattle.judge.proofs.Naming.{filled-sides}
+use Rattle.terms.proofs.Witness.{new-marks}
 use Rattle.judge.proofs.Settling.{settled-timed}
 use Rattle.judge.proofs.timed.timed.Statement.{statement}
 use Rattle.judge.proofs.timed.timed.Tie as tie
@@ -15,7 +16,9 @@ slice-aggregate-mark-names : tie.Need-slice-aggregate-mark-names
 slice-aggregate-mark-names c = search needs
 
 mark-names-requires : tie.Need-mark-names-requires
-mark-names-requires c κs = (filled-sides (c .before .before .before .before .before .before .before .pre .0 .0), blank-names)
+mark-names-requires c κs =
+    let f = c .before .before .before .before .before .before .before .pre .0 .0 in
+    (omega (arith, f .few, f .roomy .for-xs), omega (arith, f .few, f .roomy .for-ys), new-marks 1024)
 
 slice-aggregate-gather : tie.Need-slice-aggregate-gather
 slice-aggregate-gather c = search needs
