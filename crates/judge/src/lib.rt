@@ -61,7 +61,7 @@ fn supported(
     let Unfounded::Atom(k) = a else {
         return timed(atoms, xs, ys, ks, m, x, room, cycle);
     };
-    let place = k as usize;
+    let place = k.0 as usize;
     refuse(Kind::Unfounded, place)
 }
 

@@ -14,4 +14,4 @@ asBroken (broken.At p) = brokenAt p
 -- the smallest unfounded atom
 abbrev pub asUnfounded : Unfounded → Founding
 asUnfounded unfounded.None = founded
-asUnfounded (unfounded.Atom a) = unfoundedAt a
+asUnfounded (unfounded.Atom a) = unfoundedAt (a .0)

@@ -14,6 +14,7 @@ ghost use Rattle.stable.specs.Values.{asBroken, asUnfounded};
 ghost use Rattle.stable.specs.Index.{headAt, bodyAt, LiteralsAt, RuleAt, Ahead, Indexed};
 ghost use Rattle.stable.specs.Steps.{holds, fires, Marked, Added, Readable, Round, Both, LeastBy, Sought};
 use aspif::walk::after_at;
+use faults::AtomNo;
 
 // Which rule is broken first, by the place of its line.
 pub enum Broken {
@@ -24,7 +25,7 @@ pub enum Broken {
 // Which unfounded atom is the smallest.
 pub enum Unfounded {
     None,
-    Atom(u32),
+    Atom(AtomNo),
 }
 
 // The word at a place of the tape, and 0 past its end.
@@ -240,7 +241,8 @@ fn seek(x: &[u8], found: &[u8]) -> Unfounded
     while a < 4097 {
         if x[a] == 1 {
             if found[a] != 1 {
-                return Unfounded::Atom(a as u32);
+                let atom = a as u32;
+                return Unfounded::Atom(AtomNo(atom));
             }
         }
         a += 1;

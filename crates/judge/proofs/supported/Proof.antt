@@ -48,7 +48,6 @@ same-length-2 c = search needs
 returns : tie.Need-returns
 returns c =
     let p = c .before .before .before .before .before .before .before .before .before .before .before .before .before .before .before .before .before .before .before .before .before .pre .0 in
-    let f = stating-filled _ _ _ _ _ _ (p .stating) in
     let w = rw (c .before .before .before .before .before .before .before .enum-told .given .1) at (c .before .before .before .before .before .before .before .before .before .smallest-unfounded .ensures) in
     founded (founded-as meaning.founded (p .stating) (c .before .before .before .before .before .before .before .before .before .before .before .before .before .before .before .before .before .before .before .before .before .pre .1 .0) (c .before .before .before .before .before .before .before .before .before .before .before .before .externals .ensures) w) (c .before .before .before .before .timed .ensures _ (p .stating))
 
@@ -60,10 +59,9 @@ refuse-requires c κs = search needs
 
 returns-2 : tie.Need-returns-2
 returns-2 c =
-    let p = c .before .before .before .before .before .before .before .before .before .before .before .before .before .before .before .before .pre .0 in
-    let f = stating-filled _ _ _ _ _ _ (p .stating) in
-    let w = rw (c .before .before .a .given .1) at (c .before .before .before .before .smallest-unfounded .ensures) in
-    unfounded _ (founded-as (meaning.unfoundedAt _) (p .stating) (c .before .before .before .before .before .before .before .before .before .before .before .before .before .before .before .before .pre .1 .0) (c .before .before .before .before .before .before .before .externals .ensures) w) (rw (c .refuse .ensures))
+    let p = c .before .before .before .before .before .before .before .before .before .before .before .before .before .before .before .before .before .pre .0 in
+    let w = rw (c .before .before .before .a .given .1) at (c .before .before .before .before .before .smallest-unfounded .ensures) in
+    unfounded _ (founded-as (meaning.unfoundedAt _) (p .stating) (c .before .before .before .before .before .before .before .before .before .before .before .before .before .before .before .before .before .pre .1 .0) (c .before .before .before .before .before .before .before .before .externals .ensures) w) (rw (c .refuse .ensures))
 
 pub supported-spec : {M : Type 1} → statement M
 supported-spec =

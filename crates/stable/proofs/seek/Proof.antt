@@ -22,8 +22,8 @@ shared-slice-read-if1 c = omega arith
 shared-slice-read-if2 : tie.Need-shared-slice-read-if2 Inv-loop μ-loop
 shared-slice-read-if2 c = omega arith
 
-cast-t10 : tie.Need-cast-t10 Inv-loop μ-loop
-cast-t10 c = search needs
+cast-atom : tie.Need-cast-atom Inv-loop μ-loop
+cast-atom c = search needs
 
 returns : tie.Need-returns Inv-loop μ-loop
 returns c = here (c .before .before .before .before .before .loop .inv) (c .before .before .if1 .taken) (c .if2 .taken)
@@ -53,7 +53,7 @@ seek-spec =
     loop-holds
     shared-slice-read-if1
     shared-slice-read-if2
-    cast-t10
+    cast-atom
     returns
     add-a
     loop-less
