@@ -9,6 +9,9 @@ pub mod fields;
 pub mod generating;
 pub mod judging;
 pub mod meaning;
+pub mod plans;
+#[cfg(plan_judge)]
+pub mod proved;
 pub mod random;
 pub mod reading;
 pub mod refusal;

@@ -1,7 +1,7 @@
 //! The program: judges two files, or prints what reading one gives.
 
 use second::random::Random;
-use second::{container, generating, vectors};
+use second::{container, generating, plans, vectors};
 use std::io::Write;
 
 // The bytes of a file; none if it can't be opened.
@@ -18,9 +18,11 @@ fn answer(arguments: &[&str]) -> String {
         ["--generate", dir, seed, count] => generate(dir, seed, count),
         ["--vectors", dir] => write_vectors(dir),
         ["--run-vectors", dir] => run_vectors(dir),
+        ["--plans", dir] => write_plans(dir),
+        ["--run-plans", dir] => run_plans(dir),
         [plan, cand] => second::report(&bytes_of(plan), &bytes_of(cand)),
         [] => second::report(&bytes_of("plan.aspif"), &bytes_of("plan.cand")),
-        _ => String::from("usage: second [PLAN CAND | --read FILE | --candidate FILE | --check PLAN CAND ATOM.. | --generate DIR SEED COUNT | --vectors DIR | --run-vectors DIR]\n"),
+        _ => String::from("usage: second [PLAN CAND | --read FILE | --candidate FILE | --check PLAN CAND ATOM.. | --generate DIR SEED COUNT | --vectors DIR | --run-vectors DIR | --plans DIR | --run-plans DIR]\n"),
     }
 }
 
@@ -59,10 +61,29 @@ fn write_vectors(dir: &str) -> String {
     }
 }
 
+// Writes the judge's vectors into a directory.
+fn write_plans(dir: &str) -> String {
+    let pairs = plans::pairs();
+    match std::fs::write(format!("{dir}/plans"), container::write(&plans::cases(&pairs))) {
+        Ok(()) => format!("wrote {}\n", pairs.len()),
+        Err(_) => String::from("can't write there\n"),
+    }
+}
+
+// The cases of a container in a directory.
+fn cases_of(dir: &str, name: &str) -> Vec<container::Case> {
+    container::read(&bytes_of(&format!("{dir}/{name}")))
+}
+
 // What reading gives for the vectors of a directory.
 fn run_vectors(dir: &str) -> String {
-    let cases = |name: &str| container::read(&bytes_of(&format!("{dir}/{name}")));
-    vectors::run(&cases("texts"), &cases("candidates"))
+    vectors::run(&cases_of(dir, "texts"), &cases_of(dir, "candidates"))
+}
+
+// What judging gives for the vectors of a directory, and for two long texts.
+fn run_plans(dir: &str) -> String {
+    let pairs = plans::paired(&cases_of(dir, "plans"));
+    plans::run(&pairs) + &plans::run(&plans::long())
 }
 
 // Prints the answer.

@@ -75,36 +75,6 @@ fn slow_stability(lines: &[Line], differences: &[Difference], x: Bits) -> Option
     }
 }
 
-// The names and the differences in force.
-fn in_force(differences: &[Difference], atoms: &[u32]) -> (Vec<u32>, Vec<Difference>) {
-    let mut names: Vec<u32> = differences.iter().flat_map(|d| [d.x, d.y]).collect();
-    names.sort();
-    names.dedup();
-    (names, differences.iter().filter(|d| atoms.contains(&d.atom)).copied().collect())
-}
-
-// Floyd-Warshall: whether a cycle with a sum below zero exists.
-fn negative_cycle(names: &[u32], force: &[Difference]) -> bool {
-    const FAR: i64 = i64::MAX / 4;
-    let n = names.len();
-    let at = |t: u32| names.iter().position(|n| *n == t).unwrap();
-    let mut d = vec![vec![FAR; n]; n];
-    for f in force {
-        let (x, y) = (at(f.x), at(f.y));
-        d[x][y] = d[x][y].min(f.bound);
-    }
-    for k in 0..n {
-        for i in 0..n {
-            for j in 0..n {
-                if d[i][k] < FAR && d[k][j] < FAR {
-                    d[i][j] = d[i][j].min(d[i][k] + d[k][j]);
-                }
-            }
-        }
-    }
-    (0..n).any(|i| d[i][i] < 0)
-}
-
 // The least times by raising one name at a time, only where no negative cycle is.
 fn slow_times(names: &[u32], force: &[Difference]) -> BTreeMap<u32, i64> {
     let mut times: BTreeMap<u32, i64> = names.iter().map(|n| (*n, 0)).collect();

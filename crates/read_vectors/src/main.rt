@@ -1,25 +1,14 @@
 // Runs the reader's vectors: prints what reading gives for each text of `texts` and each candidate of `candidates`.
 ghost use Prim.Native.Nat.{_≤_, _<_};
 ghost use lib.ListN.{length};
-ghost use Rattle.io.specs.Counts.{Counts};
-use container::Case;
-use container::case_at;
+use files::container::Case;
+use files::container::case_at;
+use files::load;
 use printing::Holds;
 use printing::print_case;
 use printing::print_name;
 
-mod container;
 mod printing;
-
-// The bytes of a file, at the start of a buffer, and how many they are; none if it can't be opened.
-fn load(path: &[u8], buf: &mut [u8]) -> usize
-    ensures { λ r. ⌜ Counts r (now (buf .exit)) ⌝ }
-{
-    let fd = os::open_read(path);
-    let n = io::read_full(fd, buf);
-    libc::close(fd);
-    n
-}
 
 // Runs the case at a place of a container, and gives the place of the next; the end where no whole case stands.
 fn run_at(s: &[u8], at: usize, holds: Holds) -> usize

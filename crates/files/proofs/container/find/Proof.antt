@@ -2,8 +2,8 @@
 use Prim.Native.Nat.{_≤_, _-_}
 use lib.ListN.{length}
 use borrow.Author.Needs.{needs}
-use Rattle.read_vectors.proofs.container.find.Statement.{statement}
-use Rattle.read_vectors.proofs.container.find.Tie as tie
+use Rattle.files.proofs.container.find.Statement.{statement}
+use Rattle.files.proofs.container.find.Tie as tie
 
 abbrev Inv-loop : tie.InvT-loop
 Inv-loop s from b i₀ i = (from ≤ i) × (i ≤ length s)

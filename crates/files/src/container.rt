@@ -1,7 +1,7 @@
 // A container: for each case a line `NAME LENGTH`, so many bytes, and a line end.
 ghost use Prim.Native.Nat.{_≤_};
 ghost use lib.ListN.{length};
-ghost use Rattle.read_vectors.specs.Cases.{CaseIn};
+ghost use Rattle.files.specs.Cases.{CaseIn};
 
 // Where a case stands: the end of its name, then the start and the end of its bytes.
 pub enum Case {

@@ -1,8 +1,8 @@
 -- `value`: `more` keeps each length to 60,001. Assumes nothing.
 use Prim.Native.Nat.{_≤_, _-_}
 use borrow.Author.Needs.{needs}
-use Rattle.read_vectors.proofs.container.value.Statement.{statement}
-use Rattle.read_vectors.proofs.container.value.Tie as tie
+use Rattle.files.proofs.container.value.Statement.{statement}
+use Rattle.files.proofs.container.value.Tie as tie
 
 abbrev Inv-loop : tie.InvT-loop
 Inv-loop s from end v₀ i₀ v i = v ≤ 60001

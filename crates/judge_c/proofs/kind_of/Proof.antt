@@ -1,0 +1,79 @@
+-- `judge_c::kind_of` meets its contract. Assumes nothing.
+use mathlib.Core.Path.{sym}
+use Rattle.faults.specs.declared.Kind.the-variants.{Room, Long, Grammar, Carried, Bounds, Terms, Candidate, Broken, Unfounded, Cycle, Late, NotTable, NotNamed}
+use borrow.Author.Needs.{needs}
+use Rattle.judge_c.proofs.kind_of.Statement.{statement}
+use Rattle.judge_c.proofs.kind_of.Tie as tie
+
+returns : tie.Need-returns
+returns c = search needs
+
+returns-2 : tie.Need-returns-2
+returns-2 c = search needs
+
+returns-3 : tie.Need-returns-3
+returns-3 c = search needs
+
+returns-4 : tie.Need-returns-4
+returns-4 c = search needs
+
+returns-5 : tie.Need-returns-5
+returns-5 c = search needs
+
+returns-6 : tie.Need-returns-6
+returns-6 c = search needs
+
+returns-7 : tie.Need-returns-7
+returns-7 c = search needs
+
+returns-8 : tie.Need-returns-8
+returns-8 c = search needs
+
+returns-9 : tie.Need-returns-9
+returns-9 c = search needs
+
+returns-10 : tie.Need-returns-10
+returns-10 c = search needs
+
+returns-11 : tie.Need-returns-11
+returns-11 c = search needs
+
+returns-12 : tie.Need-returns-12
+returns-12 c = search needs
+
+returns-13 : tie.Need-returns-13
+returns-13 c = search needs
+
+returns-14 : tie.Need-returns-14
+returns-14 c Room e = c .match .rest .0 .0 .0 .0 .0 .0 .0 .0 .0 .0 .0 .0 .1 (sym e)
+returns-14 c Long e = c .match .rest .0 .0 .0 .0 .0 .0 .0 .0 .0 .0 .0 .1 (sym e)
+returns-14 c Grammar e = c .match .rest .0 .0 .0 .0 .0 .0 .0 .0 .0 .0 .1 (sym e)
+returns-14 c Carried e = c .match .rest .0 .0 .0 .0 .0 .0 .0 .0 .0 .1 (sym e)
+returns-14 c Bounds e = c .match .rest .0 .0 .0 .0 .0 .0 .0 .0 .1 (sym e)
+returns-14 c Terms e = c .match .rest .0 .0 .0 .0 .0 .0 .0 .1 (sym e)
+returns-14 c Candidate e = c .match .rest .0 .0 .0 .0 .0 .0 .1 (sym e)
+returns-14 c Broken e = c .match .rest .0 .0 .0 .0 .0 .1 (sym e)
+returns-14 c Unfounded e = c .match .rest .0 .0 .0 .0 .1 (sym e)
+returns-14 c Cycle e = c .match .rest .0 .0 .0 .1 (sym e)
+returns-14 c Late e = c .match .rest .0 .0 .1 (sym e)
+returns-14 c NotTable e = c .match .rest .0 .1 (sym e)
+returns-14 c NotNamed e = c .match .rest .1 (sym e)
+
+pub kind-of-spec : {M : Type 1} → statement M
+kind-of-spec =
+    tie.close
+    (tie.spec
+    returns
+    returns-2
+    returns-3
+    returns-4
+    returns-5
+    returns-6
+    returns-7
+    returns-8
+    returns-9
+    returns-10
+    returns-11
+    returns-12
+    returns-13
+    returns-14)

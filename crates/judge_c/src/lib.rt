@@ -1,0 +1,108 @@
+// The judge for C and Rust callers: numbers and slices only, each answer packed into one 64-bit number.
+ghost use mathlib.Core.Path.{_≡_};
+ghost use Prim.Native.Nat.{_+_, _*_, _%_};
+ghost use lib.ListN.{length};
+ghost use Rattle.faults.specs.Values.{number};
+ghost use Rattle.timetable.specs.Times.{timeOf};
+ghost use Rattle.judge.specs.Shown.{shown};
+ghost use Rattle.judge.specs.Values.{rooms};
+ghost use Rattle.judge_c.specs.Packed.{packedTime, packedPart, Answers, Found};
+use faults::Kind;
+use faults::Refusal;
+use faults::TermNo;
+use judge::Verdict;
+use timetable::Time;
+
+// What a number names: a kind of refusal, or none.
+enum Named {
+    Is(Kind),
+    Nothing,
+}
+
+// One number above, the other below: the lower 32 bits hold what remains of it.
+fn pack(above: u32, below: usize) -> u64
+    ensures { λ r. ⌜ r ≡ above * 4294967296 + below % 4294967296 ⌝ }
+{
+    let low = (below % 4294967296) as u64;
+    above as u64 * 4294967296 + low
+}
+
+// A refusal's number above, its place below.
+fn pack_refusal(refusal: Refusal) -> u64
+    ensures { λ r. ⌜ r ≡ number (refusal .kind) * 4294967296 + (refusal .place) % 4294967296 ⌝ }
+{
+    let kind = refusal.kind;
+    let place = refusal.place;
+    pack(kind.number(), place)
+}
+
+// The kind that a number names.
+fn kind_of(number: u32) -> Named
+    ensures { λ r. ⌜ Found number r ⌝ }
+{
+    match number {
+        1 => Named::Is(Kind::Room),
+        2 => Named::Is(Kind::Long),
+        3 => Named::Is(Kind::Grammar),
+        4 => Named::Is(Kind::Carried),
+        5 => Named::Is(Kind::Bounds),
+        6 => Named::Is(Kind::Terms),
+        7 => Named::Is(Kind::Candidate),
+        8 => Named::Is(Kind::Broken),
+        9 => Named::Is(Kind::Unfounded),
+        10 => Named::Is(Kind::Cycle),
+        11 => Named::Is(Kind::Late),
+        20 => Named::Is(Kind::NotTable),
+        21 => Named::Is(Kind::NotNamed),
+        _ => Named::Nothing,
+    }
+}
+
+// The length of the part that is shown for a number and a place.
+fn shown_length<'a>(text: &'a [u8], cand: &'a [u8], number: u32, place: u32) -> usize
+    ensures { λ r. ⌜ r ≡ length (shown number place (now (text .entry)) (now (cand .entry))) ⌝ }
+{
+    let a = kind_of(number);
+    let Named::Is(kind) = a else {
+        return 0;
+    };
+    let at = place as usize;
+    let part = judge::show::show(text, cand, Refusal { kind, place: at });
+    part.len()
+}
+
+// The verdict: 0 above and the timetable's length below, or the refusal's number above and its place below.
+#[no_mangle]
+pub extern "C" fn plan_judge(text: &[u8], cand: &[u8], room: &mut [u8], cycle: &mut [u32]) -> u64
+    ensures { λ r. ⌜ Answers (now (text .entry)) (now (cand .entry)) (rooms (now (room .entry)) (now (cycle .entry))) (rooms (now (room .exit)) (now (cycle .exit))) r ⌝ }
+{
+    let a = judge::judge(text, cand, room, cycle);
+    match a {
+        Verdict::Accepted(n) => pack(0, n),
+        Verdict::Refused(refusal) => pack_refusal(refusal),
+    }
+}
+
+// The time of a name in a timetable below, with 0 above; or 20 or 21 above and its place below.
+#[no_mangle]
+pub extern "C" fn plan_time(table: &[u8], term: u32) -> u64
+    ensures { λ r. ⌜ r ≡ packedTime (timeOf (now (table .entry)) term) ⌝ }
+{
+    let a = judge::time(table, TermNo(term));
+    match a {
+        Time::At(t) => pack(0, t as usize),
+        Time::Refused(refusal) => pack_refusal(refusal),
+    }
+}
+
+// Where the faulty part starts above, its length below; 0 where nothing is shown.
+#[no_mangle]
+pub extern "C" fn plan_shown<'a>(text: &'a [u8], cand: &'a [u8], number: u32, place: u32) -> u64
+    ensures { λ r. ⌜ r ≡ packedPart place (length (shown number place (now (text .entry)) (now (cand .entry)))) ⌝ }
+{
+    let n = shown_length(text, cand, number, place);
+    if n == 0 {
+        return 0;
+    }
+    pack(place, n)
+}

@@ -1,0 +1,21 @@
+// Judges the plan of `plan.aspif` with the candidate of `plan.cand`, and prints the verdict.
+use files::load;
+
+// Judges a text and a candidate in rooms of the size asked, and prints the verdict.
+fn judge_and_print(text: &[u8], cand: &[u8]) {
+    let mut room = [0u8; 24592];
+    let mut cycle = [0u32; 1024];
+    let verdict = judge::judge(text, cand, &mut room, &mut cycle);
+    printing::print_verdict(verdict, &room, &cycle);
+}
+
+// Reads both files. What lies past 65,536 bytes of one can't change the verdict: a text of more than 60,000 is refused
+// as too long, and a right candidate, of at most 4,096 atoms of at most four digits, has under 20,481 bytes, so a longer
+// one is refused, at a place of at most 20,480 (law candidate-near in aspif/proofs/Candidates.antt).
+fn main() {
+    let mut text = io::large_buffer();
+    let mut cand = io::large_buffer();
+    let n = load(b"plan.aspif", &mut text);
+    let m = load(b"plan.cand", &mut cand);
+    judge_and_print(&text[..n], &cand[..m]);
+}

@@ -1,0 +1,52 @@
+/* The plan judge for C: the exported functions of the proved crate judge_c (rt staticlib judge_c).
+ *
+ * Every function takes numbers and slices only and has no condition on what a slice holds. A slice is passed as a
+ * pointer and then its length in elements. Its memory must be there for the length given, no room may overlap another
+ * slice, and a pointer is never null: for an empty slice pass any address that is right for the element's type.
+ *
+ * Every answer is one 64-bit number of two halves: the upper 32 bits (above) and the lower 32 bits (below).
+ */
+#ifndef PLAN_JUDGE_H
+#define PLAN_JUDGE_H
+
+#include <stddef.h>
+#include <stdint.h>
+
+#ifdef __cplusplus
+extern "C" {
+#endif
+
+/* The least sizes of the two rooms: bytes of the timetable room, places of the cycle room. */
+#define PLAN_ROOM_BYTES 24592
+#define PLAN_CYCLE_PLACES 1024
+
+/* The two halves of an answer. */
+#define PLAN_ABOVE(answer) ((uint32_t)((answer) >> 32))
+#define PLAN_BELOW(answer) ((uint32_t)((answer) & 0xffffffffu))
+
+/* Judges a candidate against a plan text.
+ * Accepted: 0 above, the timetable's length in bytes below; the timetable stands in the first bytes of room.
+ * Refused: the refusal's number (1 to 11) above, its place below; after 10 the place is the count of atoms, and the
+ * list of the cycle's atoms stands in the first places of cycle. Nothing else in either room is changed. */
+uint64_t plan_judge(const uint8_t *text, size_t text_length,
+                    const uint8_t *cand, size_t cand_length,
+                    uint8_t *room, size_t room_length,
+                    uint32_t *cycle, size_t cycle_length);
+
+/* The time of a term number in a timetable.
+ * Found: 0 above, the time below. Else 20 above and 0 below (the slice is no timetable), or 21 above and the term
+ * number below (it is not in the timetable). */
+uint64_t plan_time(const uint8_t *table, size_t table_length, uint32_t term);
+
+/* The faulty part for a refusal: its start above, its length in bytes below; 0 if there is nothing to show.
+ * For the numbers 3, 4, 5, 6 and 8 it is a part of text, for 7 a part of cand; for every other number, and for a place
+ * beyond the end, there is nothing. */
+uint64_t plan_shown(const uint8_t *text, size_t text_length,
+                    const uint8_t *cand, size_t cand_length,
+                    uint32_t number, uint32_t place);
+
+#ifdef __cplusplus
+}
+#endif
+
+#endif

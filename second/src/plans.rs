@@ -1,0 +1,371 @@
+//! The judge's test vectors: pairs of a plan text and a candidate, from document 01, the source documents and P's neighbours.
+
+use crate::container::Case;
+use crate::generating::long_text;
+use crate::judging::{judge, report, show, CYCLE_PLACES, ROOM_BYTES};
+use crate::refusal::{Refusal, Verdict};
+use crate::timetable::time;
+use crate::vectors::{LISTING_49, LISTING_50, PLAN};
+
+/// A plan text and a candidate, with a name that has no space and no line end.
+#[derive(Clone, Debug, PartialEq, Eq)]
+pub struct Pair {
+    pub name: String,
+    pub text: Vec<u8>,
+    pub cand: Vec<u8>,
+}
+
+// The terms whose times are asked of each timetable.
+const ASKED: u32 = 16;
+
+// Candidates of P: right ones, then each fault.
+const CANDIDATES: &[&str] = &[
+    "\n", "1\n", "2\n", "3\n", "1 2\n", "1 3\n", "2 3\n", "1 2 3\n", "4\n", "1 2 3 4\n", "4096\n",
+    "", "1 2 3", "1 2 3 ", "1 2 3 \n", "1  2 3\n", " 1 2 3\n", "1 2 3\n\n", "1 2 3\n4\n", "3 2 1\n", "1 2 2\n", "0\n", "1 0\n", "4097\n", "1 2 3 4097\n", "18446744073709551617\n", "01\n", "-1\n", "1 -2\n", "x\n", "1 2 3x\n", "1,2,3\n", "1\t2\n", "1 2 3\r\n", "\n\n", "{1 2 3}\n",
+];
+
+// Neighbours of P: some lines of it, and what stands there instead; each is judged with `1 2 3`.
+const CHANGES: &[(&str, &str, &str)] = &[
+    // The first line and the end.
+    ("incremental", "asp 1 0 0\n", "asp 1 0 0 incremental\n"),
+    ("version", "asp 1 0 0\n", "asp 1 0 1\n"),
+    ("no-end", "\n0\n", "\n"),
+    ("end-cut", "\n0\n", "\n0"),
+    ("end-space", "\n0\n", "\n0 \n"),
+    ("after-end", "\n0\n", "\n0\n10 x\n"),
+    ("comments", "1 1 1 1 0 0\n", "10 \n10 a comment, 0 1 2\n1 1 1 1 0 0\n10 -\n"),
+    ("crlf", "1 1 1 1 0 0\n", "1 1 1 1 0 0\r\n"),
+    // Statements that are not carried, or never were.
+    ("minimize", "1 1 1 1 0 0\n", "1 1 1 1 0 0\n2 0 1 1 1\n"),
+    ("project", "1 1 1 1 0 0\n", "1 1 1 1 0 0\n3 1 1\n"),
+    ("external", "1 1 1 1 0 0\n", "5 1 0\n"),
+    ("edge", "\n0\n", "\n8 0 1 1 1\n0\n"),
+    ("type-11", "\n0\n", "\n11 1\n0\n"),
+    ("disjunction", "1 0 1 2 0 1 1\n", "1 0 2 2 3 0 1 1\n"),
+    ("weights", "1 0 1 2 0 1 1\n", "1 0 1 2 1 1 1 1 1\n"),
+    ("directive", "9 6 3 0 1 1 2 9\n", "9 6 0 0 1 1 2 9\n"),
+    // Numbers beyond their bounds.
+    ("bound-1000001", "9 0 5 40\n", "9 0 5 1000001\n"),
+    ("bound-1000000", "9 0 5 40\n", "9 0 5 1000000\n"),
+    ("bound-least", "9 0 8 5\n", "9 0 8 -1000000\n"),
+    ("bound-beyond", "9 0 8 5\n", "9 0 8 -1000001\n"),
+    ("bound-minus-zero", "9 0 5 40\n", "9 0 5 -0\n"),
+    ("head-zero", "1 0 1 3 0 0\n", "1 0 1 0 0 0\n"),
+    ("head-4097", "1 0 1 3 0 0\n", "1 0 1 4097 0 0\n"),
+    ("literal-zero", "1 0 1 2 0 1 1\n", "1 0 1 2 0 1 0\n"),
+    ("literal-4097", "1 0 1 2 0 1 1\n", "1 0 1 2 0 1 -4097\n"),
+    ("output-4097", "\n0\n", "\n4 1 a 1 4097\n0\n"),
+    ("term-1024", "9 1 3 4 send\n", "9 1 1024 4 send\n"),
+    ("tuple-minus-4", "9 2 7 1 2 3 4\n", "9 2 7 -4 2 3 4\n"),
+    ("theory-4097", "9 6 3 0 1 1 2 9\n", "9 6 4097 0 1 1 2 9\n"),
+    // Strings.
+    ("string-short", "9 1 3 4 send\n", "9 1 3 4 sen\n"),
+    ("string-long", "9 1 3 4 send\n", "9 1 3 4 sends\n"),
+    ("string-empty", "9 1 3 4 send\n", "9 1 3 0 \n"),
+    ("string-zero", "9 1 3 4 send\n", "9 1 3 4 se\0d\n"),
+    ("string-space", "9 1 3 4 send\n", "9 1 3 4 s  d\n"),
+    // What makes a difference.
+    ("name-diffs", "9 1 0 4 diff\n", "9 1 0 5 diffs\n"),
+    ("name-dif", "9 1 0 4 diff\n", "9 1 0 3 dif\n"),
+    ("name-Diff", "9 1 0 4 diff\n", "9 1 0 4 Diff\n"),
+    ("name-number", "9 1 0 4 diff\n", "9 0 0 4\n"),
+    ("plus", "9 1 1 1 -\n", "9 1 1 1 +\n"),
+    ("less", "9 1 2 2 <=\n", "9 1 2 1 <\n"),
+    ("greater", "9 1 2 2 <=\n", "9 1 2 2 >=\n"),
+    ("type-5", "9 6 3 0 1 1 2 9\n", "9 5 3 0 1 1\n"),
+    ("no-element", "9 6 3 0 1 1 2 9\n", "9 6 3 0 0 2 9\n"),
+    ("two-elements", "9 6 3 0 1 1 2 9\n", "9 6 3 0 2 0 1 2 9\n"),
+    ("wrong-name", "9 6 3 0 1 1 2 9\n", "9 6 3 1 1 1 2 9\n"),
+    ("wrong-operator", "9 6 3 0 1 1 2 9\n", "9 6 3 0 1 1 1 9\n"),
+    ("second-theory-atom", "9 6 3 0 1 1 2 9\n", "9 6 2 0 1 1 2 9\n"),
+    ("element-unknown", "9 6 3 0 1 1 2 9\n", "9 6 3 0 1 2 2 9\n"),
+    ("bound-unknown", "9 6 3 0 1 1 2 9\n", "9 6 3 0 1 1 2 77\n"),
+    ("bound-string", "9 6 3 0 1 1 2 9\n", "9 6 3 0 1 1 2 3\n"),
+    ("condition", "9 4 1 1 7 0\n", "9 4 1 1 7 1 1\n"),
+    ("two-terms", "9 4 1 1 7 0\n", "9 4 1 2 7 7 0\n"),
+    ("no-term", "9 4 1 1 7 0\n", "9 4 1 0 0\n"),
+    ("one-argument", "9 4 1 1 7 0\n", "9 4 1 1 9 0\n"),
+    ("no-compound", "9 4 1 1 7 0\n", "9 4 1 1 3 0\n"),
+    ("element-again", "9 4 1 1 7 0\n", "9 4 0 1 7 0\n"),
+    ("three-arguments", "9 2 7 1 2 3 4\n", "9 2 7 1 3 3 4 4\n"),
+    ("other-base", "9 2 7 1 2 3 4\n", "9 2 7 3 2 3 4\n"),
+    ("number-base", "9 2 7 1 2 3 4\n", "9 2 7 5 2 3 4\n"),
+    ("tuple-base", "9 2 7 1 2 3 4\n", "9 2 7 -1 2 3 4\n"),
+    ("own-argument", "9 2 7 1 2 3 4\n", "9 2 7 1 2 3 7\n"),
+    ("term-again", "9 0 8 5\n", "9 0 4 5\n"),
+    // Bounds: a minus on a number, which may be negative itself.
+    ("negated-two", "9 2 9 1 1 8\n", "9 2 9 1 2 8 8\n"),
+    ("negated-none", "9 2 9 1 1 8\n", "9 2 9 1 0\n"),
+    ("negated-string", "9 2 9 1 1 8\n", "9 2 9 1 1 3\n"),
+    ("negated-tuple", "9 2 9 1 1 8\n", "9 2 9 -1 1 8\n"),
+    ("negated-twice", "9 6 3 0 1 1 2 9\n", "9 2 10 1 1 9\n9 6 3 0 1 1 2 10\n"),
+    ("negated-negative", "9 0 8 5\n", "9 0 8 -5\n"),
+    ("negated-zero", "9 0 8 5\n", "9 0 8 0\n"),
+    ("negated-40", "9 0 8 5\n", "9 0 8 40\n"),
+    ("negated-41", "9 0 8 5\n", "9 0 8 41\n"),
+    ("bound-plain", "9 6 3 0 1 1 2 9\n", "9 6 3 0 1 1 2 8\n"),
+    ("sum-zero", "9 0 5 40\n", "9 0 5 5\n"),
+    ("sum-below", "9 0 5 40\n", "9 0 5 4\n"),
+    ("both-below", "9 0 5 40\n", "9 0 5 -40\n"),
+    // Names.
+    ("same-way", "9 2 7 1 2 3 4\n", "9 2 7 1 2 4 3\n"),
+    ("x-x", "9 2 7 1 2 3 4\n", "9 2 7 1 2 3 3\n"),
+    ("number-name", "9 2 7 1 2 3 4\n", "9 2 7 1 2 3 8\n"),
+    ("compound-name", "9 2 7 1 2 3 4\n", "9 2 7 1 2 3 9\n"),
+    ("operator-name", "9 2 7 1 2 3 4\n", "9 2 7 1 2 2 0\n"),
+    // Rules.
+    ("negation", "1 0 1 2 0 1 1\n", "1 0 1 2 0 1 -1\n"),
+    ("own-support", "1 0 1 2 0 1 1\n", "1 0 1 2 0 1 2\n"),
+    ("two-literals", "1 0 1 2 0 1 1\n", "1 0 1 2 0 2 3 1\n"),
+    ("choice-of-two", "1 0 1 2 0 1 1\n", "1 1 2 1 2 0 0\n"),
+    ("choice-false", "1 0 1 2 0 1 1\n", "1 1 1 2 0 1 -3\n"),
+    ("choice-empty", "1 0 1 2 0 1 1\n", "1 1 0 0 1 1\n"),
+    ("constraint", "1 0 1 2 0 1 1\n", "1 0 0 0 1 1\n"),
+    ("constraint-two", "\n0\n", "\n1 0 0 0 2 2 3\n0\n"),
+    ("constraint-false", "\n0\n", "\n1 0 0 0 2 2 -3\n0\n"),
+    ("constraint-empty", "\n0\n", "\n1 0 0 0 0\n0\n"),
+    ("no-choice", "1 1 1 1 0 0\n", ""),
+];
+
+// Programs without differences: lines after the first and before `0`, and candidates.
+const PROGRAMS: &[(&str, &str, &[&str])] = &[
+    ("nothing", "", &["\n", "1\n", ""]),
+    ("loop", "1 0 1 1 0 1 2\n1 0 1 2 0 1 1\n", &["\n", "1\n", "1 2\n"]),
+    ("odd", "1 0 1 1 0 1 -1\n", &["\n", "1\n"]),
+    ("even", "1 0 1 1 0 1 -2\n1 0 1 2 0 1 -1\n", &["\n", "1\n", "2\n", "1 2\n"]),
+    ("odd-three", "1 0 1 1 0 1 -2\n1 0 1 2 0 1 -3\n1 0 1 3 0 1 -1\n", &["1\n", "1 2\n", "1 2 3\n"]),
+    ("choice", "1 1 2 1 2 0 0\n1 0 1 3 0 2 1 2\n1 0 0 0 2 1 -2\n", &["\n", "1\n", "2\n", "1 2\n", "1 2 3\n", "2 3\n"]),
+    ("choice-loop", "1 1 2 1 2 0 2 1 2\n", &["\n", "1 2\n"]),
+    ("choice-negated", "1 1 1 1 0 1 -2\n1 1 1 2 0 1 -1\n", &["1\n", "2\n", "1 2\n"]),
+    ("backwards", "1 0 1 1 0 1 2\n1 0 1 2 0 1 3\n1 0 1 3 0 1 4\n1 0 1 4 0 0\n", &["1 2 3 4\n", "2 3 4\n", "4\n"]),
+    ("supported-loop", "1 0 1 1 0 1 2\n1 0 1 2 0 1 1\n1 1 1 3 0 0\n1 0 1 1 0 1 3\n", &["\n", "1 2\n", "1 2 3\n"]),
+    ("far-atoms", "1 1 2 4095 4096 0 0\n1 0 0 0 1 -4096\n", &["4096\n", "4095 4096\n", "4095\n"]),
+    ("bodies-repeat", "1 0 1 1 0 3 2 2 2\n1 0 1 2 0 0\n1 0 1 2 0 1 -2\n", &["1 2\n", "2\n"]),
+];
+
+// Plans of differences: rules, then for each difference its atom, x, y and the bound; and candidates.
+type Plan = (&'static str, &'static str, &'static [(u32, u32, u32, i32)], &'static [&'static str]);
+const DIFFERENCES: &[Plan] = &[
+    ("x-x-below", "", &[(7, 3, 3, -1)], &["7\n", "\n"]),
+    ("x-x-zero", "", &[(7, 3, 3, 0)], &["7\n"]),
+    ("chain", "", &[(1, 4, 3, -1), (2, 5, 4, -10), (3, 6, 5, -100), (4, 7, 6, -1000)], &["1 2 3 4\n", "1 3\n", "2 4\n", "\n"]),
+    ("chain-backwards", "", &[(1, 3, 4, -1), (2, 4, 5, -10), (3, 5, 6, -100), (4, 6, 7, -1000)], &["1 2 3 4\n", "4\n"]),
+    ("two-ways", "", &[(1, 3, 4, -7), (2, 3, 5, -2), (3, 5, 4, -6), (4, 4, 3, 8)], &["1 2 3 4\n", "1 4\n", "2 3 4\n"]),
+    ("round", "", &[(9, 3, 4, -1), (2, 4, 5, -1), (8, 5, 6, -1), (4, 6, 3, 2)], &["2 4 8 9\n", "2 8 9\n"]),
+    ("round-zero", "", &[(9, 3, 4, -1), (2, 4, 5, -1), (8, 5, 6, -1), (4, 6, 3, 3)], &["2 4 8 9\n"]),
+    ("round-beside", "", &[(1, 3, 4, -1), (2, 4, 5, -1), (3, 5, 4, 0), (5, 6, 7, -3), (6, 5, 6, -1)], &["1 2 3 5 6\n", "1 2 5 6\n", "1 3 5 6\n"]),
+    ("far", "", &[(4096, 1023, 99, -1000000), (4095, 99, 1022, -1000000)], &["4095 4096\n", "4095\n"]),
+    ("same-twice", "", &[(1, 3, 4, -5), (2, 3, 4, -9)], &["1\n", "2\n", "1 2\n"]),
+    ("defined", "1 1 1 5 0 0\n1 0 1 1 0 1 5\n", &[(1, 3, 4, -2)], &["\n", "1 5\n", "1\n", "5\n"]),
+    ("choice-defined", "1 1 1 1 0 1 5\n1 1 1 5 0 0\n", &[(1, 3, 4, -2)], &["\n", "1 5\n", "1\n", "5\n"]),
+    ("in-body", "1 0 1 5 0 1 1\n", &[(1, 3, 4, -2)], &["\n", "1 5\n", "1\n", "5\n"]),
+    ("negated-in-body", "1 0 1 5 0 1 -1\n", &[(1, 3, 4, -2)], &["5\n", "1\n", "\n", "1 5\n"]),
+    ("demanded", "1 0 0 0 1 -1\n", &[(1, 3, 4, -2)], &["1\n", "\n"]),
+    ("external-loop", "1 0 1 5 0 1 6\n1 0 1 6 0 1 5\n1 0 1 6 0 1 1\n", &[(1, 3, 4, -2)], &["1 5 6\n", "5 6\n"]),
+    ("unfounded-first", "1 0 1 5 0 1 5\n", &[(1, 3, 4, -2), (2, 4, 3, 1)], &["1 2 5\n", "1 2\n"]),
+];
+
+// The terms of every plan of differences: 0 `diff`, 1 `-`, 2 `<=`; each other name is a string.
+fn differences(rules: &str, differences: &[(u32, u32, u32, i32)]) -> String {
+    let mut names: Vec<u32> = differences.iter().flat_map(|d| [d.1, d.2]).collect();
+    names.sort_unstable();
+    names.dedup();
+    let mut lines = String::from(rules) + "9 1 0 4 diff\n9 1 1 1 -\n9 1 2 2 <=\n";
+    lines.extend(names.iter().map(|n| format!("9 1 {n} 1 a\n")));
+    for (i, (atom, x, y, k)) in differences.iter().enumerate() {
+        let (bound, minus) = (200 + 2 * i, 201 + 2 * i);
+        lines += &format!("9 0 {bound} {k}\n9 2 {minus} 1 2 {x} {y}\n9 4 {i} 1 {minus} 0\n9 6 {atom} 0 1 {i} 2 {bound}\n");
+    }
+    text(&lines)
+}
+
+// A text with these lines between the first line and `0`.
+fn text(lines: &str) -> String {
+    format!("asp 1 0 0\n{lines}0\n")
+}
+
+// A pair.
+fn pair(name: impl Into<String>, text: impl AsRef<[u8]>, cand: impl AsRef<[u8]>) -> Pair {
+    Pair { name: name.into(), text: text.as_ref().to_vec(), cand: cand.as_ref().to_vec() }
+}
+
+// One text with several candidates; the names are numbered.
+fn each(name: &str, text: &str, cands: &[&str]) -> Vec<Pair> {
+    let one = |(i, c): (usize, &&str)| pair(format!("{name}-{i}"), text, c);
+    cands.iter().enumerate().map(one).collect()
+}
+
+// Document 01's own list.
+fn document() -> Vec<Pair> {
+    let q = PLAN.replace("9 0 8 5\n", "9 0 8 45\n");
+    let without = PLAN.replace("1 0 1 2 0 1 1\n", "");
+    let subsets = ["\n", "1\n", "2\n", "3\n", "1 2\n", "1 3\n", "2 3\n", "1 2 3\n"];
+    let mut pairs = each("P", PLAN, CANDIDATES);
+    pairs.extend(each("Q", &q, &subsets));
+    pairs.extend(each("P-without-third", &without, &subsets));
+    pairs.extend(each("empty-text", "", &["\n", "", "x"]));
+    pairs
+}
+
+// P with each line left out, doubled, and moved behind the next.
+fn moved() -> Vec<Pair> {
+    let lines: Vec<&str> = PLAN.split_inclusive('\n').collect();
+    let with = |name: String, lines: Vec<&str>| pair(name, lines.concat(), "1 2 3\n");
+    let one = |i: usize| {
+        let (before, after) = (&lines[..i], &lines[i + 1..]);
+        let left_out = [before, after].concat();
+        let doubled = [before, &[lines[i], lines[i]], after].concat();
+        let next = after.len().min(1);
+        let behind = [before, &after[..next], &[lines[i]], &after[next..]].concat();
+        [with(format!("left-out-{i}"), left_out), with(format!("doubled-{i}"), doubled), with(format!("behind-{i}"), behind)]
+    };
+    (0..lines.len()).flat_map(one).collect()
+}
+
+// P with each change.
+fn changed() -> Vec<Pair> {
+    let one = |(name, from, to): &(&str, &str, &str)| {
+        let at = PLAN.rfind(from).unwrap_or(0);
+        pair(*name, [&PLAN[..at], to, &PLAN[at + from.len()..]].concat(), "1 2 3\n")
+    };
+    CHANGES.iter().map(one).collect()
+}
+
+// The refusals in their order: a plan with two faults gives the smaller number, or what is read first.
+fn ordered() -> Vec<Pair> {
+    let q = PLAN.replace("9 0 8 5\n", "9 0 8 45\n");
+    vec![
+        pair("3-before-5", text("9 0 5 -0\n9 0 6 1000001\n"), "\n"),
+        pair("5-before-3", text("9 0 6 1000001\n9 0 5 -0\n"), "\n"),
+        pair("4-before-3", text("2 x\n"), "\n"),
+        pair("3-before-6", text("9 2 0 1 0\n") + "\n", ""),
+        pair("6-before-7", text("9 2 0 1 0\n"), ""),
+        pair("7-before-8", text("1 0 0 0 0\n"), "x\n"),
+        pair("8-before-9", text("1 0 0 0 0\n"), "1\n"),
+        pair("8-first", text("1 1 0 0 0\n10 x\n1 0 0 0 1 1\n1 0 1 2 0 0\n"), "1\n"),
+        pair("9-before-10", q, "1 2 3 4\n"),
+    ]
+}
+
+// Texts of the source documents, in the part that is carried.
+fn published() -> Vec<Pair> {
+    let slides = LISTING_50.replace("9 1 8 5 start\n", "9 1 8 3 beg\n");
+    // The slides' external reading: `:- duration(T,D), not &diff { end(T)-beg(T) } <= D.`
+    let external = slides.replace("1 0 1 5 0 0\n1 0 1 6 0 0\n", "1 0 0 0 2 3 -5\n1 0 0 0 2 4 -6\n");
+    let mut pairs = each("listing-49", LISTING_49, &["1 2\n", "3\n", "\n", "1\n", "1 2 3\n", "2 3\n"]);
+    pairs.extend(each("listing-50", LISTING_50, &["1 2 3 4 5 6\n", "1 2 3 4 5\n", "1 2 3 4 5 6 7\n"]));
+    pairs.extend(each("slides-theory", &slides, &["1 2 3 4 5 6\n", "1 2 3 4\n"]));
+    pairs.extend(each("slides-external", &external, &["1 2 3 4 5 6\n", "1 2 3 4 5\n"]));
+    // 002, section 7.1: `&diff { 0-x } <= -2.` with `a :- &diff { 0-x } <= -1.`, then with `&diff { 0-x } <= -1 :- a.`
+    let zero = |rules: &str| differences(rules, &[(1, 4, 3, -2), (2, 4, 3, -1)]).replace("9 1 4 1 a\n", "9 0 4 0\n");
+    pairs.extend(each("strict-example", &zero("1 0 1 1 0 0\n1 0 1 5 0 1 2\n"), &["1 2 5\n", "1\n", "1 2\n", "1 5\n"]));
+    pairs.extend(each("defined-example", &zero("1 0 1 1 0 0\n1 0 1 2 0 1 5\n"), &["1\n", "1 2\n", "1 2 5\n"]));
+    pairs.extend(each("flow-shop", &flow_shop(), FLOW_SHOP));
+    pairs
+}
+
+// The six answers that 002 prints for its flow shop, each as the atoms that hold, then two that are wrong: no
+// fact in it, and one machine of a pair left out.
+const FLOW_SHOP: &[&str] = &[
+    "2 3 11 12 13 20 21 22 23 24 25 33 34 35 36\n",
+    "3 6 11 12 13 20 21 22 23 24 25 35 36 41 42\n",
+    "2 6 11 12 13 20 21 22 23 24 25 33 34 41 42\n",
+    "4 5 11 12 13 20 21 22 23 24 25 37 38 39 40\n",
+    "1 4 11 12 13 20 21 22 23 24 25 31 32 37 38\n",
+    "1 5 11 12 13 20 21 22 23 24 25 31 32 39 40\n",
+    "1 4\n",
+    "2 3 11 12 13 20 21 22 23 24 25 33 34 35\n",
+];
+
+// The flow shop of 002, Listings 39 and 40, ground: atoms 1 to 6 choose which task is next to which, in pairs ab, ac,
+// ba, bc, ca, cb; 11 to 13 are a task's two machines, 20 to 25 say 0 - (T,M) <= 0, 31 to 42 two machines of each pair.
+fn flow_shop() -> String {
+    // Term 3 is the number 0; the terms 4 to 9 are (a,1), (a,2), (b,1), (b,2), (c,1), (c,2).
+    let durations = [[3, 4], [1, 6], [5, 5]];
+    let name = |task: usize, machine: usize| (4 + 2 * task + machine) as u32;
+    let nexts = [(0, 1), (0, 2), (1, 0), (1, 2), (2, 0), (2, 1)];
+    let mut rules = String::from("1 1 6 1 2 3 4 5 6 0 0\n");
+    let mut list = Vec::new();
+    for task in 0..3 {
+        let atom = 11 + task as u32;
+        rules += &format!("1 0 1 {atom} 0 0\n");
+        list.push((atom, name(task, 0), name(task, 1), -durations[task][0]));
+    }
+    for i in 0..6 {
+        rules += &format!("1 0 1 {} 0 0\n", 20 + i);
+        list.push((20 + i, 3, 4 + i, 0));
+    }
+    for (i, (first, second)) in nexts.into_iter().enumerate() {
+        for machine in 0..2 {
+            let atom = (31 + 2 * i + machine) as u32;
+            rules += &format!("1 0 1 {atom} 0 1 {}\n", 1 + i);
+            list.push((atom, name(first, machine), name(second, machine), -durations[first][machine]));
+        }
+    }
+    differences(&rules, &list).replace("9 1 3 1 a\n", "9 0 3 0\n")
+}
+
+/// The pairs.
+pub fn pairs() -> Vec<Pair> {
+    let mut pairs = document();
+    pairs.extend(published());
+    pairs.extend(PROGRAMS.iter().flat_map(|(name, lines, cands)| each(name, &text(lines), cands)));
+    pairs.extend(DIFFERENCES.iter().flat_map(|(name, rules, list, cands)| each(name, &differences(rules, list), cands)));
+    pairs.extend(changed());
+    pairs.extend(ordered());
+    pairs.extend(moved());
+    pairs
+}
+
+/// A text as long as one may be, and one that is a byte longer: too long for a container, so the program makes them.
+pub fn long() -> Vec<Pair> {
+    [60_000, 60_001].into_iter().map(|n| pair(format!("long-{n}"), long_text(n), "\n")).collect()
+}
+
+/// The pairs as cases of a container: each text, and behind it its candidate.
+pub fn cases(pairs: &[Pair]) -> Vec<Case> {
+    let two = |p: &Pair| {
+        let case = |bytes: &[u8]| Case { name: p.name.clone(), bytes: bytes.to_vec() };
+        [case(&p.text), case(&p.cand)]
+    };
+    pairs.iter().flat_map(two).collect()
+}
+
+/// The pairs of some cases; a last case that has no other is left.
+pub fn paired(cases: &[Case]) -> Vec<Pair> {
+    cases.chunks_exact(2).map(|c| pair(&c[0].name, &c[0].bytes, &c[1].bytes)).collect()
+}
+
+/// What judging gives for each pair.
+pub fn run(pairs: &[Pair]) -> String {
+    pairs.iter().map(|p| format!("{}\n{}{}", p.name, report(&p.text, &p.cand), more(&p.text, &p.cand))).collect()
+}
+
+// What is asked besides the verdict: the timetable's bytes and times, or the faulty part.
+fn more(text: &[u8], cand: &[u8]) -> String {
+    let (mut room, mut cycle) = (vec![0; ROOM_BYTES], vec![0; CYCLE_PLACES]);
+    match judge(text, cand, &mut room, &mut cycle) {
+        Verdict::Accepted(n) => told(&room[..n as usize]),
+        Verdict::Refused(r) => numbers("shown", show(text, cand, r.number, r.place)),
+    }
+}
+
+// The timetable's bytes, the times of the first terms, and what is given for a timetable without its last byte.
+fn told(table: &[u8]) -> String {
+    let times: String = (0..ASKED).map(|term| reading(table, term)).collect();
+    format!("{}times{times}\ncut{}\n", numbers("table", table), reading(&table[..table.len() - 1], 0))
+}
+
+// A space and a time, or a space and why there is none.
+fn reading(table: &[u8], term: u32) -> String {
+    match time(table, term) {
+        Ok(time) => format!(" {time}"),
+        Err(Refusal { number, place }) => format!(" {number}/{place}"),
+    }
+}
+
+// A word, how many bytes there are, and each as a number.
+fn numbers(word: &str, bytes: &[u8]) -> String {
+    let each: String = bytes.iter().map(|b| format!(" {b}")).collect();
+    format!("{word} {}{each}\n", bytes.len())
+}
