@@ -1,4 +1,5 @@
 // Prints a verdict: `accepted NAMES ATOMS` and a line `TERM TIME` for each name, or `refused NUMBER PLACE` and, after 10, the cycle.
+ghost use mathlib.Core.Logic.{_⊎_};
 ghost use mathlib.Core.Path.{_≡_};
 ghost use Prim.Native.Nat.{_≤_};
 ghost use lib.ListN.{length, getD};
@@ -26,7 +27,7 @@ pub fn print_next(n: u64) {
 
 // The lesser of two numbers.
 pub fn least(a: usize, b: usize) -> usize
-    ensures { λ r. ⌜ (r ≤ a) × (r ≤ b) ⌝ }
+    ensures { λ r. ⌜ (r ≤ a) × (r ≤ b) × ((r ≡ a) ⊎ (r ≡ b)) ⌝ }
 {
     if a < b { a } else { b }
 }
