@@ -1,12 +1,12 @@
 -- How the stages follow one another: what one stage found, in the words of the next. Assumes nothing.
-use Prim.Native.Nat.{ℕ}
+use Prim.Native.Nat.{ℕ, _≤_}
 use mathlib.Core.Path.{_≡_, refl, sym, _∙_, fun-ext}
 use mathlib.Core.Bool.{false, _&&_, not}
 use mathlib.Core.List.{List, [], _∷_}
 use native.Mathlib.Omega.{arith}
-use borrow.Author.Tests.{ne-eqb}
+use borrow.Author.Tests.{ne-eqb, le-ltb}
 use lib.IntN.{ℤ}
-use lib.ListN.{take}
+use lib.ListN.{length, take}
 use Rattle.faults.specs.Answer.{got, refused, mapped}
 use Rattle.faults.specs.Marks.{among, isMarked}
 use Rattle.faults.proofs.Marks.{marked-holds}
@@ -19,8 +19,9 @@ use Rattle.terms.specs.Terms.{Stated, differences, external}
 use Rattle.terms.specs.Marks.{Marks}
 use Rattle.terms.proofs.Naming.{externals-are}
 use Rattle.stable.specs.Meaning.{Atoms, Founding, FoundedBy, Broken, firstBroken}
-use Rattle.judge.specs.Plan.{holds, planOf, pair}
-use Rattle.judge.specs.Stages.{Stating, Candidate, ready, readyAt}
+use Rattle.judge.specs.Plan.{Rooms, holds, planOf, pair, readable}
+use Rattle.judge.specs.Judged.{Result, Judges, Judged}
+use Rattle.judge.specs.Stages.{Stating, Candidate, Sized, ready, readyAt}
 use Rattle.judge.proofs.Said.{stating-filled}
 
 -- the bitmap of the candidate is its set
@@ -50,6 +51,11 @@ pub zero-unmarked : (s x : List ℕ) → candidate s ≡ got (atomsOf x) → isM
 zero-unmarked s x e = sym (marked-holds x 0) ∙ above-zero 0 (atomsOf x) (candidate-ascending s (atomsOf x) e)
 
 module _ (text cand : List ℕ) where
+  -- with rooms long enough and a text of at most 60,000 bytes, the pair decides
+  pub pair-decides : {b : Rooms} {r : Result} → Sized (b .room) (b .cycle) → length text ≤ 60000 → Judges (pair text cand) b r → Judged text cand b r
+  unfolding readable
+  pair-decides {b} z h j = rw (le-ltb (length (b .room)) 24592 (z .bytes), le-ltb (length (b .cycle)) 1024 (z .places), le-ltb 60000 (length text) h) j
+
   -- 3 to 5 refuse the pair
   pub pair-unread : (k p : ℕ) → statements text ≡ refused k p → pair text cand ≡ refused k p
   unfolding pair planOf

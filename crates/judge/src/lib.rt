@@ -122,7 +122,7 @@ fn planned(
     room: &mut [u8],
     cycle: &mut [u32],
 ) -> Verdict
-    requires { ⌜ (length (now text) ≤ 60000) × (length (now tape) ≡ 60000) × Sized (now room) (now cycle) ⌝ }
+    requires { ⌜ (length (now text) ≤ length (now tape)) × (length (now tape) ≤ 60000) × Sized (now room) (now cycle) ⌝ }
     ensures { λ r. ⌜ Judges (pair (now (text .entry)) (now (cand .entry))) (rooms (now (room .entry)) (now (cycle .entry))) (result r (now (room .exit)) (now (cycle .exit))) ⌝ }
 {
     let a = aspif::read(text, tape);
@@ -152,6 +152,11 @@ pub fn judge(text: &[u8], cand: &[u8], room: &mut [u8], cycle: &mut [u32]) -> Ve
     }
     if 60000 < text.len() {
         return refuse(Kind::Long, 60000);
+    }
+    // A short text gets a short tape, which is cleared sooner.
+    if text.len() < 2001 {
+        let mut tape = [0u32; 2000];
+        return planned(text, cand, &mut tape, room, cycle);
     }
     let mut tape = [0u32; 60000];
     planned(text, cand, &mut tape, room, cycle)

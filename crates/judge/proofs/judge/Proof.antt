@@ -1,8 +1,10 @@
 -- `judge::judge` meets its contract: the rooms and the length of the text first. Assumes nothing.
 use borrow.Author.Needs.{needs}
 use borrow.Author.Tests.{lt-ltb, le-ltb}
+use native.Mathlib.Omega.{arith}
 use Rattle.judge.specs.Plan.{readable}
 use Rattle.judge.specs.Judged.{unreadable}
+use Rattle.judge.proofs.Staging.{pair-decides}
 use Rattle.judge.proofs.judge.Statement.{statement}
 use Rattle.judge.proofs.judge.Tie as tie
 
@@ -31,7 +33,7 @@ slice-aggregate-planned : tie.Need-slice-aggregate-planned
 slice-aggregate-planned c = search needs
 
 planned-requires : tie.Need-planned-requires
-planned-requires c κs = search needs
+planned-requires c κs = (omega (arith, c .before .before .before .if4 .taken), omega arith, record { bytes = c .before .before .before .before .before .before .if1 .left; places = c .before .before .before .before .before .if2 .left })
 
 same-length : tie.Need-same-length
 same-length c = search needs
@@ -40,8 +42,22 @@ same-length-2 : tie.Need-same-length-2
 same-length-2 c = search needs
 
 returns-4 : tie.Need-returns-4
-unfolding readable
-returns-4 c = rw (le-ltb _ _ (c .before .before .before .before .before .before .before .before .before .before .before .if1 .left), le-ltb _ _ (c .before .before .before .before .before .before .before .before .before .before .if2 .left), le-ltb _ _ (c .before .before .before .before .before .before .before .before .before .if3 .left)) (c .before .before .before .before .before .planned .ensures)
+returns-4 c = pair-decides _ _ (record { bytes = c .before .before .before .before .before .before .before .before .before .before .before .before .if1 .left; places = c .before .before .before .before .before .before .before .before .before .before .before .if2 .left }) (c .before .before .before .before .before .before .before .before .before .before .if3 .left) (c .before .before .before .before .before .planned .ensures)
+
+slice-aggregate-planned-2 : tie.Need-slice-aggregate-planned-2
+slice-aggregate-planned-2 c = search needs
+
+planned-requires-2 : tie.Need-planned-requires-2
+planned-requires-2 c κs = (c .before .before .before .before .if3 .left, omega arith, record { bytes = c .before .before .before .before .before .before .if1 .left; places = c .before .before .before .before .before .if2 .left })
+
+same-length-3 : tie.Need-same-length-3
+same-length-3 c = search needs
+
+same-length-4 : tie.Need-same-length-4
+same-length-4 c = search needs
+
+returns-5 : tie.Need-returns-5
+returns-5 c = pair-decides _ _ (record { bytes = c .before .before .before .before .before .before .before .before .before .before .before .before .if1 .left; places = c .before .before .before .before .before .before .before .before .before .before .before .if2 .left }) (c .before .before .before .before .before .before .before .before .before .before .if3 .left) (c .before .before .before .before .before .planned2 .ensures)
 
 pub judge-spec : {M : Type 1} → statement M
 judge-spec =
@@ -57,4 +73,9 @@ judge-spec =
     planned-requires
     same-length
     same-length-2
-    returns-4)
+    returns-4
+    slice-aggregate-planned-2
+    planned-requires-2
+    same-length-3
+    same-length-4
+    returns-5)

@@ -10,7 +10,7 @@ use Rattle.judge.proofs.planned.Statement.{statement}
 use Rattle.judge.proofs.planned.Tie as tie
 
 read-requires : tie.Need-read-requires
-read-requires c κs = (omega (arith, c .before .before .before .before .before .before .pre .1), c .before .before .before .before .before .before .pre .0)
+read-requires c κs = (c .before .before .before .before .before .before .pre .0, omega (arith, c .before .before .before .before .before .before .pre .0, c .before .before .before .before .before .before .pre .1))
 
 enum-known-a : tie.Need-enum-known-a
 enum-known-a c = search needs
