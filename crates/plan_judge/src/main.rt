@@ -1,12 +1,12 @@
 // Judges the plan of `plan.aspif` with the candidate of `plan.cand`, and prints the verdict.
 use files::load;
+use libc::STDOUT_FILENO;
 
-// Judges a text and a candidate in rooms of the size asked, and prints the verdict.
+// Judges a text and a candidate, and prints the verdict.
 fn judge_and_print(text: &[u8], cand: &[u8]) {
-    let mut room = [0u8; 24592];
-    let mut cycle = [0u32; 1024];
-    let verdict = judge::judge(text, cand, &mut room, &mut cycle);
-    printing::print_verdict(verdict, &room, &cycle);
+    let mut out = io::large_buffer();
+    let n = report::judged(text, cand, &mut out);
+    io::write_all(STDOUT_FILENO, &out[..n]);
 }
 
 // Reads both files. What lies past 65,536 bytes of one can't change the verdict: a text of more than 60,000 is refused

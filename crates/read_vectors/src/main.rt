@@ -1,14 +1,14 @@
 // Runs the reader's vectors: prints what reading gives for each text of `texts` and each candidate of `candidates`.
 ghost use Prim.Native.Nat.{_≤_, _<_};
 ghost use lib.ListN.{length};
+use cases::Holds;
+use cases::print_case;
 use files::container::Case;
 use files::container::case_at;
 use files::load;
-use printing::Holds;
-use printing::print_case;
 use printing::print_name;
 
-mod printing;
+mod cases;
 
 // Runs the case at a place of a container, and gives the place of the next; the end where no whole case stands.
 fn run_at(s: &[u8], at: usize, holds: Holds) -> usize

@@ -159,7 +159,7 @@ fn wide(b: u8) -> u32
 }
 
 // The number whose four bytes stand at a place.
-fn word_at(table: &[u8], p: usize) -> u32
+pub fn word_at(table: &[u8], p: usize) -> u32
     requires { ⌜ p + 4 ≤ length (now table) ⌝ }
     ensures { λ r. ⌜ r ≡ wordAt (now (table .entry)) p ⌝ }
 {

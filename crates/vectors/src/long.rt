@@ -1,8 +1,8 @@
 // A text as long as one may be, and one that is a byte longer.
 ghost use Prim.Native.Nat.{_+_, _≤_};
 ghost use lib.ListN.{length};
-use crate::pairs::print_name;
 use crate::pairs::print_pair;
+use printing::print_name;
 
 // Writes some bytes at a place.
 fn put(s: &mut [u8], at: usize, part: &[u8])

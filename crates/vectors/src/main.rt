@@ -5,8 +5,8 @@ use files::container::Case;
 use files::container::case_at;
 use files::load;
 use long::print_long;
-use pairs::print_name;
 use pairs::print_pair;
+use printing::print_name;
 
 mod long;
 mod pairs;

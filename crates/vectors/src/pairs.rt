@@ -1,25 +1,18 @@
 // Prints what judging gives: the verdict, then the timetable's bytes and times, or the faulty part.
 ghost use mathlib.Core.Path.{_≡_};
+ghost use Prim.Native.Nat.{min};
 use faults::Refusal;
 use faults::TermNo;
 use judge::Verdict;
 use judge::show::show;
-use libc::STDOUT_FILENO;
-use printing::least;
+use printing::print_bytes;
 use printing::print_end;
 use printing::print_first;
 use printing::print_next;
-use printing::print_verdict;
 use timetable::Time;
 
 // The terms whose times are asked of each timetable: those below.
 const ASKED: u32 = 16;
-
-// Prints a name and a line end.
-pub fn print_name(name: &[u8]) {
-    io::write_all(STDOUT_FILENO, name);
-    print_end();
-}
 
 // A byte as a wider number.
 fn wide(b: u8) -> u64
@@ -29,8 +22,8 @@ fn wide(b: u8) -> u64
 }
 
 // Prints a word, how many bytes there are, and each as a number.
-fn print_bytes(word: &[u8], s: &[u8]) {
-    io::write_all(STDOUT_FILENO, word);
+fn print_numbers(word: &[u8], s: &[u8]) {
+    print_bytes(word);
     print_next(s.len() as u64);
     let mut i = 0;
     while i < s.len() {
@@ -45,7 +38,7 @@ fn print_reason(refusal: Refusal) {
     let kind = refusal.kind;
     let place = refusal.place;
     print_next(kind.number() as u64);
-    io::write_all(STDOUT_FILENO, b"/");
+    print_bytes(b"/");
     print_first(place as u64);
 }
 
@@ -60,7 +53,7 @@ fn print_time(table: &[u8], term: u32) {
 
 // Prints the times of the terms that are asked.
 fn print_times(table: &[u8]) {
-    io::write_all(STDOUT_FILENO, b"times");
+    print_bytes(b"times");
     let mut term: u32 = 0;
     while term < ASKED {
         print_time(table, term);
@@ -75,16 +68,23 @@ fn print_cut(table: &[u8]) {
         return;
     }
     let end = table.len() - 1;
-    io::write_all(STDOUT_FILENO, b"cut");
+    print_bytes(b"cut");
     print_time(&table[0..end], 0);
     print_end();
 }
 
 // Prints the bytes and the times of a timetable.
 fn print_table(table: &[u8]) {
-    print_bytes(b"table", table);
+    print_numbers(b"table", table);
     print_times(table);
     print_cut(table);
+}
+
+// The lesser of two numbers.
+fn least(a: usize, b: usize) -> usize
+    ensures { λ r. ⌜ r ≡ min a b ⌝ }
+{
+    if a < b { a } else { b }
 }
 
 // Prints the timetable of n bytes at the start of a room.
@@ -97,7 +97,7 @@ fn print_front(room: &[u8], n: usize) {
 fn print_more<'a>(verdict: Verdict, text: &'a [u8], cand: &'a [u8], room: &[u8]) {
     match verdict {
         Verdict::Accepted(n) => print_front(room, n),
-        Verdict::Refused(r) => print_bytes(b"shown", show(text, cand, r)),
+        Verdict::Refused(r) => print_numbers(b"shown", show(text, cand, r)),
     }
 }
 
@@ -106,6 +106,8 @@ pub fn print_pair<'a>(text: &'a [u8], cand: &'a [u8]) {
     let mut room = [0u8; 24592];
     let mut cycle = [0u32; 1024];
     let verdict = judge::judge(text, cand, &mut room, &mut cycle);
-    print_verdict(verdict, &room, &cycle);
+    let mut out = io::large_buffer();
+    let n = report::write(&mut out, verdict, &room, &cycle);
+    print_bytes(&out[..n]);
     print_more(verdict, text, cand, &room);
 }

@@ -1,0 +1,67 @@
+-- `print_atoms` stays within the bitmap: the measure is what is left of it. Assumes nothing.
+use Prim.Native.Nat.{_≤_, _-_}
+use lib.ListN.{length}
+use borrow.Author.Needs.{needs}
+use Rattle.read_vectors.proofs.cases.print_atoms.Statement.{statement}
+use Rattle.read_vectors.proofs.cases.print_atoms.Tie as tie
+
+abbrev Inv-loop : tie.InvT-loop
+Inv-loop x i₀ i = i ≤ length x
+
+abbrev μ-loop : tie.MeasureT-loop
+μ-loop x i₀ i = length x - i
+
+slice-aggregate-print-bytes : tie.Need-slice-aggregate-print-bytes Inv-loop μ-loop
+slice-aggregate-print-bytes c = search needs
+
+print-bytes-requires : tie.Need-print-bytes-requires Inv-loop μ-loop
+print-bytes-requires c κs = search needs
+
+count-requires : tie.Need-count-requires Inv-loop μ-loop
+count-requires c κs = search needs
+
+print-next-requires : tie.Need-print-next-requires Inv-loop μ-loop
+print-next-requires c κs = search needs
+
+loop-holds : tie.Need-loop-holds Inv-loop μ-loop
+loop-holds c = search needs
+
+shared-slice-read-if1 : tie.Need-shared-slice-read-if1 Inv-loop μ-loop
+shared-slice-read-if1 c = search needs
+
+print-next-requires-2 : tie.Need-print-next-requires-2 Inv-loop μ-loop
+print-next-requires-2 c κs = search needs
+
+add-i : tie.Need-add-i Inv-loop μ-loop
+add-i c = search needs
+
+loop-less : tie.Need-loop-less Inv-loop μ-loop
+loop-less c = search needs
+
+loop-again : tie.Need-loop-again Inv-loop μ-loop
+loop-again c = search needs
+
+print-end-requires : tie.Need-print-end-requires Inv-loop μ-loop
+print-end-requires c κs = search needs
+
+returns : tie.Need-returns Inv-loop μ-loop
+returns c = search needs
+
+pub print-atoms-spec : {M : Type 1} → statement M
+print-atoms-spec =
+    tie.close
+    (tie.spec
+    Inv-loop
+    μ-loop
+    slice-aggregate-print-bytes
+    print-bytes-requires
+    count-requires
+    print-next-requires
+    loop-holds
+    shared-slice-read-if1
+    print-next-requires-2
+    add-i
+    loop-less
+    loop-again
+    print-end-requires
+    returns)

@@ -1,0 +1,70 @@
+-- `print_line` ends: the measure is what is left of the line. Assumes nothing.
+use Prim.Native.Nat.{_-_}
+use borrow.Author.Needs.{needs}
+use Rattle.read_vectors.proofs.cases.print_line.Statement.{statement}
+use Rattle.read_vectors.proofs.cases.print_line.Tie as tie
+
+abbrev Inv-loop : tie.InvT-loop
+Inv-loop tape p end i₀ i = Unit {0}
+
+abbrev μ-loop : tie.MeasureT-loop
+μ-loop tape p end i₀ i = end - i
+
+word-at-requires : tie.Need-word-at-requires Inv-loop μ-loop
+word-at-requires c κs = search needs
+
+cast-print-first : tie.Need-cast-print-first Inv-loop μ-loop
+cast-print-first c = search needs
+
+print-first-requires : tie.Need-print-first-requires Inv-loop μ-loop
+print-first-requires c κs = search needs
+
+add-i : tie.Need-add-i Inv-loop μ-loop
+add-i c = search needs
+
+loop-holds : tie.Need-loop-holds Inv-loop μ-loop
+loop-holds c = search needs
+
+word-at-requires-2 : tie.Need-word-at-requires-2 Inv-loop μ-loop
+word-at-requires-2 c κs = search needs
+
+cast-print-next : tie.Need-cast-print-next Inv-loop μ-loop
+cast-print-next c = search needs
+
+print-next-requires : tie.Need-print-next-requires Inv-loop μ-loop
+print-next-requires c κs = search needs
+
+add-i-2 : tie.Need-add-i-2 Inv-loop μ-loop
+add-i-2 c = search needs
+
+loop-less : tie.Need-loop-less Inv-loop μ-loop
+loop-less c = search needs
+
+loop-again : tie.Need-loop-again Inv-loop μ-loop
+loop-again c = search needs
+
+print-end-requires : tie.Need-print-end-requires Inv-loop μ-loop
+print-end-requires c κs = search needs
+
+returns : tie.Need-returns Inv-loop μ-loop
+returns c = search needs
+
+pub print-line-spec : {M : Type 1} → statement M
+print-line-spec =
+    tie.close
+    (tie.spec
+    Inv-loop
+    μ-loop
+    word-at-requires
+    cast-print-first
+    print-first-requires
+    add-i
+    loop-holds
+    word-at-requires-2
+    cast-print-next
+    print-next-requires
+    add-i-2
+    loop-less
+    loop-again
+    print-end-requires
+    returns)

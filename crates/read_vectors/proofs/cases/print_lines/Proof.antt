@@ -1,0 +1,64 @@
+-- `print_lines`: the lines that are left stand within the tape. Assumes nothing.
+use Rattle.aspif.specs.Words.{Within}
+use Rattle.read_vectors.proofs.Rooms.{within-here, within-next}
+use native.Mathlib.Omega.{arith}
+use borrow.Author.Needs.{needs}
+use Rattle.read_vectors.proofs.cases.print_lines.Statement.{statement}
+use Rattle.read_vectors.proofs.cases.print_lines.Tie as tie
+
+abbrev Inv-loop : tie.InvT-loop
+Inv-loop tape n p₀ left₀ p left = Within tape p left
+
+abbrev μ-loop : tie.MeasureT-loop
+μ-loop tape n p₀ left₀ p left = left
+
+slice-aggregate-print-bytes : tie.Need-slice-aggregate-print-bytes Inv-loop μ-loop
+slice-aggregate-print-bytes c = search needs
+
+print-bytes-requires : tie.Need-print-bytes-requires Inv-loop μ-loop
+print-bytes-requires c κs = search needs
+
+print-next-requires : tie.Need-print-next-requires Inv-loop μ-loop
+print-next-requires c κs = search needs
+
+print-end-requires : tie.Need-print-end-requires Inv-loop μ-loop
+print-end-requires c κs = search needs
+
+loop-holds : tie.Need-loop-holds Inv-loop μ-loop
+loop-holds c = search needs
+
+after-at-requires : tie.Need-after-at-requires Inv-loop μ-loop
+after-at-requires c κs = within-here _ _ _ (c .before .loop .inv)
+
+print-line-requires : tie.Need-print-line-requires Inv-loop μ-loop
+print-line-requires c κs = within-here _ _ _ (c .before .before .loop .inv)
+
+sub-left : tie.Need-sub-left Inv-loop μ-loop
+sub-left c = search needs
+
+loop-less : tie.Need-loop-less Inv-loop μ-loop
+loop-less c = search needs
+
+loop-again : tie.Need-loop-again Inv-loop μ-loop
+loop-again c = rw (c .before .after-at .ensures) (within-next _ _ _ (omega arith) (c .before .before .before .loop .inv))
+
+returns : tie.Need-returns Inv-loop μ-loop
+returns c = search needs
+
+pub print-lines-spec : {M : Type 1} → statement M
+print-lines-spec =
+    tie.close
+    (tie.spec
+    Inv-loop
+    μ-loop
+    slice-aggregate-print-bytes
+    print-bytes-requires
+    print-next-requires
+    print-end-requires
+    loop-holds
+    after-at-requires
+    print-line-requires
+    sub-left
+    loop-less
+    loop-again
+    returns)

@@ -1,0 +1,125 @@
+-- What is printed of a judged result fits 65,536 bytes: a number has at most 20 digits, and a timetable at most 1,024 names. Assumes nothing.
+use Prim.Native.Nat.{ℕ, zero, suc, _+_, _*_, _/_, _%_, _≤_, min}
+use mathlib.Core.Path.{_≡_, refl, ap, sym, _∙_}
+use mathlib.Core.Bool.{Bool, true, false}
+use mathlib.Core.List.{List, [], _∷_, _++_, append-assoc}
+use native.Mathlib.Omega.{arith}
+use lib.Dec.{eqb, ltb}
+use native.Mathlib.Nat.{zero-add}
+use lib.Seq.{sets-eq}
+use lib.ListN.{length, take, drop, replicate, length-append, length-take, length-map}
+use Rattle.faults.specs.Answer.{got, pick}
+use Rattle.timetable.specs.Word.{word, wordAt}
+use Rattle.timetable.specs.Table.{Record, Content, headerBytes, recordBytes, atomBytes, tableOf, nameCount, atomCount, recordsAt, lastTerm, namesOf, within}
+use Rattle.timetable.proofs.Words.{word-here}
+use Rattle.timetable.proofs.Bounds.{few, is-within}
+use Rattle.timetable.proofs.Writing.{length-table}
+use Rattle.judge.specs.Plan.{Rooms}
+use Rattle.judge.specs.Judged.{refusal, Result, accepting, Judged, cyclic, timed, unfounded, founded, broken, whole, unreadable, ready}
+use Rattle.judge.proofs.Tables.{content, content-within, table-got}
+use Rattle.report.specs.Report.{digitsTo, decimal, next, two, nexts, listLine, recordLine, recordLines, accepted, refused, acceptedLines, refusedLines, lines, Reported}
+use Rattle.report.specs.Steps.{Put, Fits, Reportable}
+
+-- ---- the lines
+
+digits-few : (k n : ℕ) → length (digitsTo k n) ≤ k
+unfolding digitsTo
+digits-few zero n = omega arith
+digits-few (suc k) n = go (ltb n 10) (digits-few k (n / 10))
+  where
+    go : (t : Bool) → length (digitsTo k (n / 10)) ≤ k → length (pick t ((48 + n) ∷ []) (digitsTo k (n / 10) ++ ((48 + n % 10) ∷ []))) ≤ suc k
+    go true h = omega arith
+    go false h = omega (arith, h, length-append (digitsTo k (n / 10)) ((48 + n % 10) ∷ []))
+
+two-few : (n m : ℕ) → length (two n m) ≤ 43
+two-few n m = omega (arith, digits-few 20 n, digits-few 20 m, length-append (next n ++ next m) (10 ∷ []), length-append (next n) (next m))
+
+nexts-few : (vs : List ℕ) → length (nexts vs) ≤ 21 * length vs
+unfolding nexts
+nexts-few [] = omega arith
+nexts-few (v ∷ vs) = omega (arith, digits-few 20 v, nexts-few vs, length-append (next v) (nexts vs))
+
+list-few : (vs : List ℕ) → length (listLine vs) ≤ 1 + 21 * length vs
+unfolding listLine
+list-few [] = omega arith
+list-few (v ∷ vs) = omega (arith, digits-few 20 v, nexts-few vs, length-append (decimal v ++ nexts vs) (10 ∷ []), length-append (decimal v) (nexts vs))
+
+records-few : (rs : List Record) → length (recordLines rs) ≤ 42 * length rs
+unfolding recordLines
+records-few [] = omega arith
+records-few (r ∷ rs) =
+    omega (arith, digits-few 20 (r .name), digits-few 20 (r .time), records-few rs, length-append (recordLine r) (recordLines rs), length-append (decimal (r .name) ++ next (r .time)) (10 ∷ []), length-append (decimal (r .name)) (next (r .time)))
+
+records-counted : (s : List ℕ) (k p : ℕ) → length (recordsAt s k p) ≡ k
+unfolding recordsAt
+records-counted s zero p = refl
+records-counted s (suc k) p = ap suc (records-counted s k (p + 8))
+
+length-three : (xs ys zs : List ℕ) → length (xs ++ ys ++ zs) ≡ length xs + length ys + length zs
+length-three xs ys zs = omega (arith, length-append (xs ++ ys) zs, length-append xs ys)
+
+accepted-few : (room : List ℕ) → nameCount room ≤ 1024 → length (acceptedLines room) ≤ 65536
+unfolding acceptedLines
+accepted-few room h =
+    let rs = recordsAt room (nameCount room) 16 in
+    omega (arith, h, two-few (nameCount room) (atomCount room), records-few rs, records-counted room (nameCount room) 16, length-three accepted (two (nameCount room) (atomCount room)) (recordLines rs))
+
+second-few : (t : Bool) (p : ℕ) (cycle : List ℕ) → length (pick t (listLine (take p cycle)) []) ≤ 1 + 21 * length cycle
+second-few true p cycle = omega (arith, list-few (take p cycle), length-take p cycle)
+second-few false p cycle = omega arith
+
+refused-few : (k p : ℕ) (cycle : List ℕ) → length cycle ≤ 1024 → length (refusedLines k p cycle) ≤ 65536
+unfolding refusedLines
+refused-few k p cycle h =
+    omega (arith, h, two-few k p, second-few (eqb k 10) p cycle, length-three refused (two k p) (pick (eqb k 10) (listLine (take p cycle)) []))
+
+-- ---- the names of a timetable
+
+module _ (c : Content) (h : within c ≡ true) (rest : List ℕ) where
+  names-few : length (c .records) ≤ 1024
+  names-few = omega (arith, few 0 lastTerm (namesOf (c .records)) (omega arith) (is-within c h .names), length-map (c .records) (λ (r : Record). r .name))
+
+  -- the first word counts them
+  names-counted : nameCount (tableOf c ++ rest) ≡ length (c .records)
+  unfolding tableOf headerBytes
+  names-counted =
+      word-here (tableOf c ++ rest) 0 (length (c .records))
+      (word (length (c .atoms)) ++ (word 16 ++ (word (16 + 8 * length (c .records)) ++ (recordBytes (c .records) ++ (atomBytes (c .atoms) ++ rest)))))
+      (omega (arith, names-few))
+      (simp append-assoc)
+
+  -- their records stand within it
+  names-within : 16 + 8 * nameCount (tableOf c ++ rest) ≤ length (tableOf c ++ rest)
+  names-within = omega (arith, names-counted, length-table c, length-append (tableOf c) rest)
+
+-- ---- a judged result
+
+-- what is printed of it can be written into 65,536 bytes
+pub judged-fits : (text cand : List ℕ) (b : Rooms) (r : Result) (out : List ℕ) → Judged text cand b r → length (r .rooms .cycle) ≤ 1024 → 65536 ≤ length out
+    → Reportable (r .verdict) (r .rooms .room) × Fits (lines (r .verdict) (r .rooms)) out 0
+judged-fits text cand b r out j h n = go j
+  where
+    of-refusal : (k p : ℕ) → r .verdict ≡ refusal k p → Reportable (r .verdict) (r .rooms .room) × Fits (lines (r .verdict) (r .rooms)) out 0
+    of-refusal k p e = rw e (tt, record { fits = omega (arith, n, refused-few k p (r .rooms .cycle) h) })
+
+    of-table : (c : Content) → within c ≡ true → r ≡ accepting b (got (tableOf c)) → Reportable (r .verdict) (r .rooms .room) × Fits (lines (r .verdict) (r .rooms)) out 0
+    of-table c w e =
+        let rest = drop (length (tableOf c)) (b .room) in
+        rw e (names-within c w rest, record { fits = omega (arith, n, accepted-few (tableOf c ++ rest) (omega (arith, names-counted c w rest, names-few c w rest))) })
+
+    go : Judged text cand b r → Reportable (r .verdict) (r .rooms .room) × Fits (lines (r .verdict) (r .rooms)) out 0
+    go (unreadable k p e f) = of-refusal k p (ap (λ (s : Result). s .verdict) f)
+    go (ready q e (broken p f g)) = of-refusal 8 p (ap (λ (s : Result). s .verdict) g)
+    go (ready q e (whole f (unfounded a g i))) = of-refusal 9 a (ap (λ (s : Result). s .verdict) i)
+    go (ready q e (whole f (founded g (cyclic cs i l)))) = of-refusal 10 (length cs) (ap (λ (s : Result). s .verdict) l)
+    go (ready q e (whole f (founded g (timed u i ns m l)))) = of-table (content ns u (q .atoms)) (content-within text cand b q e u i ns m) (rw (table-got text cand b q e u i ns m) at l)
+
+-- written from the first place on, it stands before what was there
+pub written-whole : {text cand : List ℕ} {r : Result} {a b : List ℕ} {n : ℕ} → Judged text cand (record { room = replicate 24592 0; cycle = replicate 1024 0 }) r
+    → Put (lines (r .verdict) (r .rooms)) a 0 b n → Fits (lines (r .verdict) (r .rooms)) a 0 → Reported text cand a b n
+written-whole {text} {cand} {r} {a} {b} {n} j s f = record {
+  result = r;
+  judged = j;
+  length-is = s .ends ∙ zero-add _;
+  bytes = s .is ∙ sets-eq (lines (r .verdict) (r .rooms)) a 0 (f .fits) ∙ rw zero-add;
+}

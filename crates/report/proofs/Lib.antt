@@ -1,0 +1,5 @@
+-- General laws.
+pub mod Putting
+pub mod Decimals
+pub mod Listing
+pub mod Lengths
