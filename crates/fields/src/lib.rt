@@ -7,7 +7,7 @@ use faults::Kind;
 use faults::Refusal;
 use faults::TermNo;
 
-mod digits;
+pub mod digits;
 pub mod number;
 pub mod tape;
 

@@ -1,9 +1,26 @@
--- Where a case of a container may stand. Assumes nothing.
-use Prim.Native.Nat.{ℕ, _≤_, _<_, _+_}
+-- The cases of a container: each is a line `NAME LENGTH`, so many bytes, and a line end. It can be run. Assumes nothing.
+use Prim.Native.Nat.{ℕ, _+_}
+use mathlib.Core.List.{List}
+use lib.ListN.{length}
+use lib.Dec.{eqb}
+use Rattle.faults.specs.Answer.{pick}
+use Rattle.fields.specs.Reading.{Reading, found, fault, Reader, _>>=_, _>>_, pure}
+use Rattle.fields.specs.Fields.{byteAt, byte, field, nextNatural}
 use Rattle.files.specs.declared.container.Case.{Case}
 use Rattle.files.specs.declared.container.Case.the-variants.{At, Nothing}
 
--- from `at` on its name, then its bytes, at most 60,000, and a byte after them within the length
-abbrev pub CaseIn : (at length : ℕ) → Case → Type 0
-CaseIn at n (At name start end) = (at ≤ name) × (name ≤ start) × (start ≤ end) × (end < n) × (end ≤ start + 60000)
-CaseIn at n Nothing = Unit {0}
+-- what follows the name: a space, a natural to 60,000, and the line end
+unfoldable pub caseLength : Reader ℕ
+caseLength = do
+  n ← nextNatural 5 60000
+  byte 10
+  pure n
+
+-- a length and the place after its line: so many bytes, and a line end
+abbrev pub caseOf : List ℕ → (name : ℕ) → Reading ℕ → Case
+caseOf s name (found n start) = pick (eqb (byteAt s (start + n)) 10) (At name start (start + n)) Nothing
+caseOf s name (fault k p) = Nothing
+
+-- the case at a place, whose name runs to the next space or line end
+unfoldable pub caseAt : List ℕ → (at : ℕ) → Case
+caseAt s at = let name = at + length (field s at) in caseOf s name (caseLength s name)

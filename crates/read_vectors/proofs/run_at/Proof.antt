@@ -1,5 +1,7 @@
 -- `run_at`: a case that was found stands within the container. Assumes nothing.
+use mathlib.Core.Path.{sym, _∙_}
 use borrow.Author.Needs.{needs}
+use Rattle.files.proofs.Cases.{case-in}
 use Rattle.read_vectors.proofs.run_at.Statement.{statement}
 use Rattle.read_vectors.proofs.run_at.Tie as tie
 
@@ -17,17 +19,17 @@ returns c = search needs
 
 sub-print-name : tie.Need-sub-print-name
 sub-print-name c =
-    let h = rw (c .before .a .given .1) at (c .before .before .before .case-at .ensures) in
+    let h = case-in _ _ (sym (c .before .a .given .1) ∙ c .before .before .before .case-at .ensures) in
     search needs
 
 part-print-name-start : tie.Need-part-print-name-start
 part-print-name-start c =
-    let h = rw (c .before .a .given .1) at (c .before .before .before .case-at .ensures) in
+    let h = case-in _ _ (sym (c .before .a .given .1) ∙ c .before .before .before .case-at .ensures) in
     search needs
 
 part-print-name-end : tie.Need-part-print-name-end
 part-print-name-end c =
-    let h = rw (c .before .a .given .1) at (c .before .before .before .case-at .ensures) in
+    let h = case-in _ _ (sym (c .before .a .given .1) ∙ c .before .before .before .case-at .ensures) in
     search needs
 
 print-name-requires : tie.Need-print-name-requires
@@ -35,32 +37,32 @@ print-name-requires c κs = search needs
 
 sub-print-case : tie.Need-sub-print-case
 sub-print-case c =
-    let h = rw (c .before .before .before .a .given .1) at (c .before .before .before .before .before .case-at .ensures) in
+    let h = case-in _ _ (sym (c .before .before .before .a .given .1) ∙ c .before .before .before .before .before .case-at .ensures) in
     search needs
 
 part-print-case-start : tie.Need-part-print-case-start
 part-print-case-start c =
-    let h = rw (c .before .before .before .a .given .1) at (c .before .before .before .before .before .case-at .ensures) in
+    let h = case-in _ _ (sym (c .before .before .before .a .given .1) ∙ c .before .before .before .before .before .case-at .ensures) in
     search needs
 
 part-print-case-end : tie.Need-part-print-case-end
 part-print-case-end c =
-    let h = rw (c .before .before .before .a .given .1) at (c .before .before .before .before .before .case-at .ensures) in
+    let h = case-in _ _ (sym (c .before .before .before .a .given .1) ∙ c .before .before .before .before .before .case-at .ensures) in
     search needs
 
 print-case-requires : tie.Need-print-case-requires
 print-case-requires c κs =
-    let h = rw (c .before .before .before .before .a .given .1) at (c .before .before .before .before .before .before .case-at .ensures) in
+    let h = case-in _ _ (sym (c .before .before .before .before .a .given .1) ∙ c .before .before .before .before .before .before .case-at .ensures) in
     search needs
 
 add-result : tie.Need-add-result
 add-result c =
-    let h = rw (c .before .before .before .before .before .a .given .1) at (c .before .before .before .before .before .before .before .case-at .ensures) in
+    let h = case-in _ _ (sym (c .before .before .before .before .before .a .given .1) ∙ c .before .before .before .before .before .before .before .case-at .ensures) in
     search needs
 
 returns-2 : tie.Need-returns-2
 returns-2 c =
-    let h = rw (c .before .before .before .before .before .a .given .1) at (c .before .before .before .before .before .before .before .case-at .ensures) in
+    let h = case-in _ _ (sym (c .before .before .before .before .before .a .given .1) ∙ c .before .before .before .before .before .before .before .case-at .ensures) in
     search needs
 
 pub run-at-spec : {M : Type 1} → statement M

@@ -1,5 +1,7 @@
 -- `run_at`: a pair that was found stands within the container. Assumes nothing.
+use mathlib.Core.Path.{sym, _∙_}
 use borrow.Author.Needs.{needs}
+use Rattle.files.proofs.Cases.{case-in}
 use Rattle.vectors.proofs.run_at.Statement.{statement}
 use Rattle.vectors.proofs.run_at.Tie as tie
 
@@ -17,12 +19,12 @@ returns c = search needs
 
 add-case-at : tie.Need-add-case-at
 add-case-at c =
-    let h = rw (c .before .a .given .1) at (c .before .before .before .case-at .ensures) in
+    let h = case-in _ _ (sym (c .before .a .given .1) ∙ c .before .before .before .case-at .ensures) in
     search needs
 
 case-at-requires-2 : tie.Need-case-at-requires-2
 case-at-requires-2 c κs =
-    let h = rw (c .before .a .given .1) at (c .before .before .before .case-at .ensures) in
+    let h = case-in _ _ (sym (c .before .a .given .1) ∙ c .before .before .before .case-at .ensures) in
     search needs
 
 enum-known-b : tie.Need-enum-known-b
@@ -36,17 +38,17 @@ returns-2 c = search needs
 
 sub-print-name : tie.Need-sub-print-name
 sub-print-name c =
-    let h = rw (c .before .before .before .before .before .a .given .1) at (c .before .before .before .before .before .before .before .case-at .ensures) in
+    let h = case-in _ _ (sym (c .before .before .before .before .before .a .given .1) ∙ c .before .before .before .before .before .before .before .case-at .ensures) in
     search needs
 
 part-print-name-start : tie.Need-part-print-name-start
 part-print-name-start c =
-    let h = rw (c .before .before .before .before .before .a .given .1) at (c .before .before .before .before .before .before .before .case-at .ensures) in
+    let h = case-in _ _ (sym (c .before .before .before .before .before .a .given .1) ∙ c .before .before .before .before .before .before .before .case-at .ensures) in
     search needs
 
 part-print-name-end : tie.Need-part-print-name-end
 part-print-name-end c =
-    let h = rw (c .before .before .before .before .before .a .given .1) at (c .before .before .before .before .before .before .before .case-at .ensures) in
+    let h = case-in _ _ (sym (c .before .before .before .before .before .a .given .1) ∙ c .before .before .before .before .before .before .before .case-at .ensures) in
     search needs
 
 print-name-requires : tie.Need-print-name-requires
@@ -54,32 +56,32 @@ print-name-requires c κs = search needs
 
 sub-print-pair : tie.Need-sub-print-pair
 sub-print-pair c =
-    let h = rw (c .before .before .before .before .before .before .before .a .given .1) at (c .before .before .before .before .before .before .before .before .before .case-at .ensures) in
+    let h = case-in _ _ (sym (c .before .before .before .before .before .before .before .a .given .1) ∙ c .before .before .before .before .before .before .before .before .before .case-at .ensures) in
     search needs
 
 part-print-pair-start : tie.Need-part-print-pair-start
 part-print-pair-start c =
-    let h = rw (c .before .before .before .before .before .before .before .a .given .1) at (c .before .before .before .before .before .before .before .before .before .case-at .ensures) in
+    let h = case-in _ _ (sym (c .before .before .before .before .before .before .before .a .given .1) ∙ c .before .before .before .before .before .before .before .before .before .case-at .ensures) in
     search needs
 
 part-print-pair-end : tie.Need-part-print-pair-end
 part-print-pair-end c =
-    let h = rw (c .before .before .before .before .before .before .before .a .given .1) at (c .before .before .before .before .before .before .before .before .before .case-at .ensures) in
+    let h = case-in _ _ (sym (c .before .before .before .before .before .before .before .a .given .1) ∙ c .before .before .before .before .before .before .before .before .before .case-at .ensures) in
     search needs
 
 sub-print-pair-2 : tie.Need-sub-print-pair-2
 sub-print-pair-2 c =
-    let h = rw (c .before .before .before .before .b .given .1) at (c .before .before .before .before .before .before .case-at2 .ensures) in
+    let h = case-in _ _ (sym (c .before .before .before .before .b .given .1) ∙ c .before .before .before .before .before .before .case-at2 .ensures) in
     search needs
 
 part-print-pair-start-2 : tie.Need-part-print-pair-start-2
 part-print-pair-start-2 c =
-    let h = rw (c .before .before .before .before .b .given .1) at (c .before .before .before .before .before .before .case-at2 .ensures) in
+    let h = case-in _ _ (sym (c .before .before .before .before .b .given .1) ∙ c .before .before .before .before .before .before .case-at2 .ensures) in
     search needs
 
 part-print-pair-end-2 : tie.Need-part-print-pair-end-2
 part-print-pair-end-2 c =
-    let h = rw (c .before .before .before .before .b .given .1) at (c .before .before .before .before .before .before .case-at2 .ensures) in
+    let h = case-in _ _ (sym (c .before .before .before .before .b .given .1) ∙ c .before .before .before .before .before .before .case-at2 .ensures) in
     search needs
 
 print-pair-requires : tie.Need-print-pair-requires
@@ -87,13 +89,13 @@ print-pair-requires c κs = search needs
 
 add-result : tie.Need-add-result
 add-result c =
-    let h = rw (c .before .before .before .before .before .before .b .given .1) at (c .before .before .before .before .before .before .before .before .case-at2 .ensures) in
+    let h = case-in _ _ (sym (c .before .before .before .before .before .before .b .given .1) ∙ c .before .before .before .before .before .before .before .before .case-at2 .ensures) in
     search needs
 
 returns-3 : tie.Need-returns-3
 returns-3 c =
-    let h = rw (c .before .before .before .before .before .before .before .before .before .before .a .given .1) at (c .before .before .before .before .before .before .before .before .before .before .before .before .case-at .ensures) in
-    let k = rw (c .before .before .before .before .before .before .b .given .1) at (c .before .before .before .before .before .before .before .before .case-at2 .ensures) in
+    let h = case-in _ _ (sym (c .before .before .before .before .before .before .before .before .before .before .a .given .1) ∙ c .before .before .before .before .before .before .before .before .before .before .before .before .case-at .ensures) in
+    let k = case-in _ _ (sym (c .before .before .before .before .before .before .b .given .1) ∙ c .before .before .before .before .before .before .before .before .case-at2 .ensures) in
     search needs
 
 pub run-at-spec : {M : Type 1} → statement M

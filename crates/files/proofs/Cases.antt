@@ -1,0 +1,61 @@
+-- A case that is found stands within its container, from its place on. Assumes nothing.
+use Prim.Native.Nat.{ℕ, _+_, _≤_, _<_}
+use mathlib.Core.Path.{_≡_, refl}
+use mathlib.Core.List.{List}
+use mathlib.Core.Bool.{Bool, true, false}
+use native.Mathlib.Omega.{arith}
+use borrow.Author.Tests.{eqb-true}
+use lib.Dec.{eqb, lit<}
+use lib.ListN.{length}
+use Rattle.faults.specs.Answer.{pick}
+use Rattle.fields.specs.Reading.{Reading, found, fault, bind}
+use Rattle.fields.specs.Fields.{byteAt, byte, field, nextNatural}
+use Rattle.fields.proofs.Naturals.{there}
+use Rattle.fields.proofs.Taping.{nextNatural-within}
+use Rattle.fields.proofs.Ahead.{nextNatural-far, byte-ahead}
+use Rattle.files.specs.Cases.{caseLength, caseOf, caseAt}
+use Rattle.files.specs.declared.container.Case.{Case}
+use Rattle.files.specs.declared.container.Case.the-variants.{At, Nothing}
+
+-- a length is at most 60,000, and its line ends within the container
+pub length-in : (s : List ℕ) (at : ℕ) {n start : ℕ} → found n start ≡ caseLength s at → (n ≤ 60000) × (at ≤ start) × (start ≤ length s)
+unfolding caseLength
+length-in s at {n} {start} = go (nextNatural 5 60000 s at) refl
+  where
+    goal : Type 0
+    goal = (n ≤ 60000) × (at ≤ start) × (start ≤ length s)
+
+    ended : (v m : ℕ) → found v m ≡ nextNatural 5 60000 s at → (b : Reading Unit) → b ≡ byte 10 s m → found n start ≡ bind b (λ u l. found v l) → goal
+    ended v m h (found u l) k e =
+        let i : n ≡ v = (cc) in
+        let j : start ≡ l = (cc) in
+        omega (arith, nextNatural-within 5 60000 s at v m h, nextNatural-far 5 60000 s at .ends v m h, byte-ahead s m 10 (lit< tt) .ends u l k)
+    ended v m h (fault i p) k e = let z : _≡_ {A = ℕ} 0 1 = (cc) in absurd (omega arith)
+
+    go : (a : Reading ℕ) → a ≡ nextNatural 5 60000 s at → found n start ≡ bind a (λ v m. bind (byte 10 s m) (λ u l. found v l)) → goal
+    go (found v m) h e = ended v m h (byte 10 s m) refl e
+    go (fault k p) h e = let z : _≡_ {A = ℕ} 0 1 = (cc) in absurd (omega arith)
+
+-- its name, then its bytes, at most 60,000, and a byte after them
+pub case-in : (s : List ℕ) (at : ℕ) {name start end : ℕ} → At name start end ≡ caseAt s at
+    → (at ≤ name) × (name ≤ start) × (start ≤ end) × (end < length s) × (end ≤ start + 60000)
+unfolding caseAt
+case-in s at {name} {start} {end} = go (caseLength s from) refl
+  where
+    from : ℕ
+    from = at + length (field s at)
+
+    goal : Type 0
+    goal = (at ≤ name) × (name ≤ start) × (start ≤ end) × (end < length s) × (end ≤ start + 60000)
+
+    ended : (n l : ℕ) → found n l ≡ caseLength s from → (t : Bool) → eqb (byteAt s (l + n)) 10 ≡ t → At name start end ≡ pick t (At from l (l + n)) Nothing → goal
+    ended n l h true q e =
+        let i : name ≡ from = (cc) in
+        let j : start ≡ l = (cc) in
+        let k : end ≡ l + n = (cc) in
+        omega (arith, length-in s from h, there 10 s (l + n) (lit< tt) (eqb-true (byteAt s (l + n)) 10 q))
+    ended n l h false q e = let z : _≡_ {A = ℕ} 0 1 = (cc) in absurd (omega arith)
+
+    go : (a : Reading ℕ) → a ≡ caseLength s from → At name start end ≡ caseOf s from a → goal
+    go (found n l) h e = ended n l h (eqb (byteAt s (l + n)) 10) refl e
+    go (fault k p) h e = let z : _≡_ {A = ℕ} 0 1 = (cc) in absurd (omega arith)
