@@ -4,7 +4,7 @@ use mathlib.Core.Path.{_≡_, refl, sym, _∙_}
 use mathlib.Core.List.{List, [], _∷_, _++_, append-assoc}
 use mathlib.Core.Bool.{Bool, true, false, _&&_}
 use native.Mathlib.Omega.{arith}
-use borrow.Author.Tests.{eq-eqb, ne-eqb, eqb-true, eqb-false, leb-true, leb-false, ltb-true, le-leb, lt-leb, lt-ltb, le-ltb}
+use borrow.Author.Tests.{eq-eqb, ne-eqb, eqb-true, eqb-false, leb-true, leb-false, ltb-true, le-leb, lt-leb}
 use lib.Dec.{eqb, leb, ltb, lit<}
 use lib.ListN.{length, getD, set, length-set}
 use lib.Seq.{getD-set-other}
@@ -13,7 +13,7 @@ use Rattle.fields.specs.Reading.{Reading, found, fault, bind}
 use Rattle.fields.specs.Fields.{byteAt, byte, field, allDigits, isNatural, value, natural}
 use Rattle.fields.proofs.Decimal.{value-grows}
 use Rattle.fields.proofs.Naturals.{there, natural-within}
-use Rattle.aspif.specs.Grammar.{answer}
+use Rattle.aspif.specs.Grammar.{answer, lastLine}
 use Rattle.aspif.specs.Candidate.{sevenfold, atomAbove, ending, ascending, atoms, candidate, AscendingFrom, atomsOf, Blank}
 use Rattle.faults.proofs.Marks.{marks-none, marks-more}
 
@@ -89,38 +89,17 @@ above low s at = go (natural 7 4096 s at) refl
 
 -- ---- the end
 
-module _ (s : List ℕ) (at : ℕ) where
-  byte-fault : {i p : ℕ} → fault i p ≡ byte 10 s at → p ≡ at
-  unfolding byte
-  byte-fault {i} {p} = go (eqb (byteAt s at) 10)
-    where
-      go : (t : Bool) → fault i p ≡ pick t (found (tt {0}) (at + 1)) (fault 3 at) → p ≡ at
-      go true e = let z : _≡_ {A = ℕ} 0 1 = (cc) in absurd (omega arith)
-      go false e = (cc)
-
-  pub ending-refused : {k p : ℕ} → fault k p ≡ byte 10 s at → fault 7 at ≡ ending s at
-  unfolding ending
-  ending-refused {k} {p} e = let z : p ≡ at = byte-fault e in rw (← e, z)
-
-  pub ending-more : {n : ℕ} → found tt n ≡ byte 10 s at → n < length s → fault 7 n ≡ ending s at
-  unfolding ending
-  ending-more {n} e l = rw (← e, lt-ltb n (length s) l)
-
-  pub ending-good : {n : ℕ} → found tt n ≡ byte 10 s at → length s ≤ n → found tt n ≡ ending s at
-  unfolding ending
-  ending-good {n} e l = rw (← e, le-ltb n (length s) l)
-
 -- what the end is: a fault at it or behind it, or nothing more
 data Ended (s : List ℕ) (at : ℕ) : Reading Unit → Type 0 where
   more : {p : ℕ} → p ≤ length s → p ≤ at + 1 → Ended s at (fault 7 p)
   over : {n : ℕ} → Ended s at (found tt n)
 
 ended : (s : List ℕ) (at : ℕ) → at ≤ length s → Ended s at (ending s at)
-unfolding ending byte
+unfolding ending lastLine byte
 ended s at l = go (eqb (byteAt s at) 10) (ltb (at + 1) (length s)) refl
   where
     go : (t u : Bool) → ltb (at + 1) (length s) ≡ u
-        → Ended s at (bind (sevenfold (pick t (found (tt {0}) (at + 1)) (fault 3 at))) (λ v n. pick (ltb n (length s)) (fault 7 n) (found tt n)))
+        → Ended s at (sevenfold (bind (pick t (found (tt {0}) (at + 1)) (fault 3 at)) (λ v n. pick (ltb n (length s)) (fault 3 n) (found tt n))))
     go true true q = rw q (more {p = at + 1} (omega (arith, ltb-true (at + 1) (length s) q)) (omega arith))
     go true false q = rw q over
     go false u q = more l (omega arith)

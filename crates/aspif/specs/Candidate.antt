@@ -3,12 +3,12 @@ use Prim.Native.Nat.{ℕ, zero, suc, _+_, _≤_, _<_}
 use mathlib.Core.Path.{_≡_}
 use mathlib.Core.List.{List, [], _∷_}
 use lib.ListN.{length, getD}
-use lib.Dec.{eqb, leb, ltb}
+use lib.Dec.{eqb, leb}
 use Rattle.faults.specs.Answer.{Answer, pick}
 use Rattle.faults.specs.Marks.{marks}
 use Rattle.fields.specs.Reading.{Reading, found, fault, Reader, bind}
-use Rattle.fields.specs.Fields.{byteAt, byte, natural}
-use Rattle.aspif.specs.Grammar.{answer}
+use Rattle.fields.specs.Fields.{byteAt, natural}
+use Rattle.aspif.specs.Grammar.{answer, lastLine}
 
 -- the same answer, with any fault as 7
 abbrev pub sevenfold : {A : Type 0} → Reading A → Reading A
@@ -19,9 +19,9 @@ sevenfold (fault k p) = fault 7 p
 unfoldable pub atomAbove : (low : ℕ) → Reader ℕ
 atomAbove low s at = bind (sevenfold (natural 7 4096 s at)) (λ v n. pick (leb v low) (fault 7 at) (found v n))
 
--- byte 10, and nothing after it
+-- a line end, and nothing after it
 unfoldable pub ending : Reader Unit
-ending s at = bind (sevenfold (byte 10 s at)) (λ u n. pick (ltb n (length s)) (fault 7 n) (found tt n))
+ending s at = sevenfold (lastLine s at)
 
 -- at most n atoms, strictly ascending above low, one space between
 unfoldable pub ascending : (n low : ℕ) → Reader (List ℕ)

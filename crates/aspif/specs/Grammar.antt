@@ -162,7 +162,7 @@ statementOf k place =
 
 -- ---- the text
 
--- the line end of the line `0`, and nothing after it
+-- the end of the last line, and nothing after it
 unfoldable pub lastLine : Reader Unit
 lastLine s at = bind (byte 10 s at) (λ u n. pick (ltb n (length s)) (fault 3 n) (found tt n))
 

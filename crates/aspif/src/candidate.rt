@@ -5,6 +5,7 @@ ghost use Rattle.fields.specs.Values.{asAtom, asPassed};
 ghost use Rattle.aspif.specs.Grammar.{answer};
 ghost use Rattle.aspif.specs.Candidate.{atomAbove, ending, ascending, candidate, Blank};
 ghost use Rattle.aspif.specs.Values.{asMarked, refusalOfMarked};
+use crate::lines::last_line;
 use faults::AtomNo;
 use faults::Kind;
 use faults::Refusal;
@@ -59,20 +60,17 @@ fn atom_above(c: Cursor, s: &[u8], low: u32) -> AtomField
     AtomField::Got(AtomNo(v), n)
 }
 
-// Byte 10, and nothing after it.
+// A line end, and nothing after it.
 fn ending(c: Cursor, s: &[u8]) -> Passed
     ensures { λ r. ⌜ asPassed r ≡ ending (now (s .entry)) (c .at) ⌝ }
 {
-    let at = c.at;
-    let a = c.byte(s, 10);
-    let Passed::Got(n) = a else {
-        return Passed::Refused(seven(at));
+    let a = last_line(c, s);
+    let Passed::Got(_) = a else {
+        let r = a.refusal();
+        let place = r.place;
+        return Passed::Refused(seven(place));
     };
-    let end = n.at;
-    if end < s.len() {
-        return Passed::Refused(seven(end));
-    }
-    Passed::Got(n)
+    a
 }
 
 // Marks the atoms from the cursor on.

@@ -39,8 +39,8 @@ pub fn first_line(c: Cursor, s: &[u8]) -> Passed
     d.byte(s, 10)
 }
 
-// The line end of the line `0`, and nothing after it.
-fn last_line(c: Cursor, s: &[u8]) -> Passed
+// The end of the last line, and nothing after it.
+pub fn last_line(c: Cursor, s: &[u8]) -> Passed
     ensures { λ r. ⌜ asPassed r ≡ lastLine (now (s .entry)) (c .at) ⌝ }
 {
     let a = c.byte(s, 10);

@@ -95,5 +95,5 @@ pub record Candidates : Type 0 where
 
 -- each is computed
 pub candidates : Candidates
-unfolding candidate atoms ascending ending atomAbove natural field upTo isNatural allDigits value byteAt byte
+unfolding candidate atoms ascending ending lastLine atomAbove natural field upTo isNatural allDigits value byteAt byte
 candidates = record { one-two-three-four = refl; one-three-four = refl; two-three-four = refl }

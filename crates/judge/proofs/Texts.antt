@@ -29,7 +29,7 @@ pub record Candidates : Type 0 where
 
 -- each is computed
 pub candidates : Candidates
-unfolding candidate atoms ascending ending atomAbove natural field upTo isNatural allDigits value byteAt byte
+unfolding candidate atoms ascending ending lastLine atomAbove natural field upTo isNatural allDigits value byteAt byte
 candidates = record { none = refl; one = refl; three = refl; one-two = refl; one-three = refl; two-three = refl; one-two-three = refl }
 
 -- ---- texts

@@ -1,44 +1,40 @@
--- `aspif::candidate::ending` meets its contract: byte 10 is refused where it is missing, and what follows it behind it. Assumes nothing.
-use mathlib.Core.Path.{sym, ap, _∙_}
+-- `aspif::candidate::ending` meets its contract. Assumes nothing.
 use borrow.Author.Needs.{needs}
-use Rattle.fields.specs.Values.{asPassed}
-use Rattle.aspif.proofs.Candidates.{ending-refused, ending-more, ending-good}
+use Rattle.aspif.specs.Candidate.{ending}
 use Rattle.aspif.proofs.candidate.ending.Statement.{statement}
 use Rattle.aspif.proofs.candidate.ending.Tie as tie
 
-byte-requires : tie.Need-byte-requires
-byte-requires c κs = search needs
-
-enum-known-a : tie.Need-enum-known-a
-enum-known-a c = search needs
+last-line-requires : tie.Need-last-line-requires
+last-line-requires c κs = search needs
 
 enum-told : tie.Need-enum-told
 enum-told c = search needs
+
+enum-told-2 : tie.Need-enum-told-2
+enum-told-2 c = search needs
+
+refusal-requires : tie.Need-refusal-requires
+refusal-requires c κs = search needs
 
 seven-requires : tie.Need-seven-requires
 seven-requires c κs = search needs
 
 returns : tie.Need-returns
-returns c = rw (c .seven .ensures) (ending-refused _ _ (sym (ap asPassed (c .before .enum-told .given .1)) ∙ c .before .before .before .byte .ensures))
-
-seven-requires-2 : tie.Need-seven-requires-2
-seven-requires-2 c κs = search needs
+unfolding ending
+returns c = rw (c .seven .ensures, c .before .refusal .ensures, ← (c .before .before .before .before .last-line .ensures), c .before .before .enum-told2 .given .1)
 
 returns-2 : tie.Need-returns-2
-returns-2 c = rw (c .seven2 .ensures) (ending-more _ _ (sym (ap asPassed (c .before .before .before .a .given .1)) ∙ c .before .before .before .before .before .byte .ensures) (c .before .if1 .taken))
-
-returns-3 : tie.Need-returns-3
-returns-3 c = ending-good _ _ (sym (ap asPassed (c .before .before .a .given .1)) ∙ c .before .before .before .before .byte .ensures) (c .if1 .left)
+unfolding ending
+returns-2 c = rw (← (c .before .before .last-line .ensures), c .enum-told .given .1)
 
 pub ending-spec : {M : Type 1} → statement M
 ending-spec =
     tie.close
     (tie.spec
-    byte-requires
-    enum-known-a
+    last-line-requires
     enum-told
+    enum-told-2
+    refusal-requires
     seven-requires
     returns
-    seven-requires-2
-    returns-2
-    returns-3)
+    returns-2)
