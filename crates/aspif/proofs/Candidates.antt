@@ -20,7 +20,7 @@ use Rattle.faults.proofs.Marks.{marks-none, marks-more}
 -- ---- a field
 
 -- a natural is refused where it begins
-natural-fault : (k most : ℕ) (s : List ℕ) (at i p : ℕ) → fault i p ≡ natural k most s at → p ≡ at
+pub natural-fault : (k most : ℕ) (s : List ℕ) (at i p : ℕ) → fault i p ≡ natural k most s at → p ≡ at
 unfolding natural
 natural-fault k most s at i p = go (isNatural (field s at)) (leb (value 0 (field s at)) most)
   where
