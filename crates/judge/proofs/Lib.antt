@@ -7,6 +7,7 @@ pub mod Readable
 pub mod Small
 pub mod Tables
 pub mod Demand1
+pub mod Places
 pub mod Demand2
 pub mod Texts
 pub mod Models

@@ -7,6 +7,7 @@ pub mod Demand2
 pub mod Later
 pub mod Demand3
 pub mod Demand1
+pub mod Bounds
 pub mod Texts
 pub mod Starred
 pub mod Stages
