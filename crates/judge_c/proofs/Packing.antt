@@ -1,41 +1,77 @@
 -- What a packed number stands for, by cases. Assumes nothing.
-use Prim.Native.Nat.{ℕ, _+_, _*_, _%_}
+use Prim.Native.Nat.{ℕ, _+_, _*_, _%_, _≤_, _<_}
 use mathlib.Core.Path.{_≡_, sym, ap}
-use mathlib.Core.Bool.{false}
-use mathlib.Core.List.{List}
+use mathlib.Core.Bool.{Bool, true, false}
+use mathlib.Core.List.{List, [], _∷_}
 use native.Mathlib.Omega.{arith}
 use borrow.Author.Tests.{eq-eqb, ne-eqb}
 use lib.Dec.{eqb}
 use lib.ListN.{length}
-use Rattle.faults.specs.Answer.{Answer, got, refused}
+use Rattle.faults.specs.Answer.{Answer, got, refused, pick}
 use Rattle.faults.specs.Values.{number}
 use Rattle.faults.specs.declared.Kind.{Kind}
 use Rattle.faults.specs.declared.Kind.the-variants.{Grammar, Carried, Bounds, Terms, Candidate, Broken}
+use Rattle.timetable.specs.Table.{Record, isTable, shown as shownIn}
+use Rattle.timetable.specs.Times.{timeAmong, timeOf}
 use Rattle.judge.specs.Plan.{Rooms}
 use Rattle.judge.specs.Judged.{acceptance, refusal, Judged}
 use Rattle.judge.specs.Shown.{inText, shown}
 use Rattle.judge.proofs.Parts.{shown-none}
+use Rattle.judge.proofs.Places.{places-bounded}
 use Rattle.judge_c.specs.Packed.{packedTime, packedPart, Answers}
 
+-- an acceptance, with the timetable's length
 pub accepts : {text cand : List ℕ} {b a : Rooms} {n r : ℕ}
     → Judged text cand b (record { verdict = acceptance n; rooms = a })
-    → r ≡ 0 * 4294967296 + n % 4294967296 → Answers text cand b a r
+    → r ≡ 0 * 4294967296 + n → Answers text cand b a r
 accepts {n = n} j e = record { judgement = acceptance n; judged = j; value = omega arith }
 
+-- a refusal, with its number and place
 pub refuses : {text cand : List ℕ} {b a : Rooms} {k p r : ℕ}
     → Judged text cand b (record { verdict = refusal k p; rooms = a })
-    → r ≡ k * 4294967296 + p % 4294967296 → Answers text cand b a r
+    → r ≡ k * 4294967296 + p → Answers text cand b a r
 refuses {k = k} {p = p} j e = record { judgement = refusal k p; judged = j; value = e }
 
-pub times : (a : Answer ℕ) (t r : ℕ) → got t ≡ a → r ≡ 0 * 4294967296 + t % 4294967296 → r ≡ packedTime a
+-- a timetable's length fits the lower half
+pub length-fits : (text cand : List ℕ) {b a : Rooms} {n : ℕ} → Judged text cand b (record { verdict = acceptance n; rooms = a }) → n < 4294967296
+length-fits text cand {b} j = let h = places-bounded text cand b _ j in omega arith
+
+-- a place fits the lower half
+pub place-fits : (text cand : List ℕ) {b a : Rooms} {k p : ℕ} → Judged text cand b (record { verdict = refusal k p; rooms = a }) → p < 4294967296
+place-fits text cand {b} j = let h = places-bounded text cand b _ j in omega arith
+
+-- a time
+pub times : (a : Answer ℕ) (t r : ℕ) → got t ≡ a → r ≡ 0 * 4294967296 + t → r ≡ packedTime a
 times a t r g e = rw (← g) (omega arith)
 
-pub timeless : (a : Answer ℕ) (k p r : ℕ) → refused k p ≡ a → r ≡ k * 4294967296 + p % 4294967296 → r ≡ packedTime a
+-- 20 or 21
+pub timeless : (a : Answer ℕ) (k p r : ℕ) → refused k p ≡ a → r ≡ k * 4294967296 + p → r ≡ packedTime a
 timeless a k p r g e = rw (← g) e
 
+-- no record has the name: the place is the term asked for
+none-among : (u k p : ℕ) (rs : List Record) → refused k p ≡ timeAmong u rs → p ≤ u
+unfolding timeAmong
+none-among u k p [] e = let z : p ≡ u = (cc) in omega arith
+none-among u k p (r ∷ rs) e = go (eqb (r .name) u) (none-among u k p rs) e
+  where
+    go : (t : Bool) → (refused k p ≡ timeAmong u rs → p ≤ u) → refused k p ≡ pick t (got (r .time)) (timeAmong u rs) → p ≤ u
+    go true h e = let z : _≡_ {A = ℕ} 0 1 = (cc) in absurd (omega arith)
+    go false h e = h e
+
+-- the place of 20 is 0, that of 21 the term asked for
+pub time-place : (s : List ℕ) (u k p : ℕ) → refused k p ≡ timeOf s u → p ≤ u
+unfolding timeOf
+time-place s u k p = go (isTable s)
+  where
+    go : (t : Bool) → refused k p ≡ pick t (timeAmong u (shownIn s .records)) (refused 20 0) → p ≤ u
+    go true e = none-among u k p (shownIn s .records) e
+    go false e = let z : p ≡ 0 = (cc) in omega arith
+
+-- an empty part
 pub no-part : (p n : ℕ) → n ≡ 0 → 0 ≡ packedPart p n
 no-part p n e = rw (eq-eqb n 0 e)
 
+-- a part that is not empty
 pub some-part : (p n r : ℕ) → (n ≡ 0 → ⊥) → r ≡ p * 4294967296 + n % 4294967296 → r ≡ packedPart p n
 some-part p n r any e = rw (ne-eqb n 0 any) e
 

@@ -11,17 +11,19 @@ use Rattle.judge.specs.Judged.{Judgement, acceptance, refusal, Judged}
 use Rattle.judge_c.specs.declared.Named.{Named}
 use Rattle.judge_c.specs.declared.Named.the-variants.{Is, Nothing}
 
--- an acceptance: 0 above, the timetable's length below; a refusal: its number above, its place below
+-- an acceptance: 0 above, the timetable's length below; a refusal: its number above, its place below.
+-- Both are far below 2 ^ 32 (`Bounds` of the judge), so the halves give them back
 abbrev pub packed : Judgement → ℕ
-packed (acceptance n) = n % 4294967296
-packed (refusal k p) = k * 4294967296 + p % 4294967296
+packed (acceptance n) = n
+packed (refusal k p) = k * 4294967296 + p
 
--- 0 above, the time below; or the refusal's number above, its place below
+-- 0 above, the time below; or the refusal's number above, its place below, which is 0 or the term asked for
 abbrev pub packedTime : Answer ℕ → ℕ
-packedTime (got t) = t % 4294967296
-packedTime (refused k p) = k * 4294967296 + p % 4294967296
+packedTime (got t) = t
+packedTime (refused k p) = k * 4294967296 + p
 
--- a part by its start and length: the start above, the length below; 0 for an empty part
+-- a part by its start and length: the start above, the length below; 0 for an empty part.
+-- The length is modulo 2 ^ 32: a candidate may be of any length, and a part of it is as long where it has no byte 10
 abbrev pub packedPart : (start length : ℕ) → ℕ
 packedPart p n = pick (eqb n 0) 0 (p * 4294967296 + n % 4294967296)
 

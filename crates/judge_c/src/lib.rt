@@ -1,6 +1,6 @@
 // The judge for C and Rust callers: numbers and slices only, each answer packed into one 64-bit number.
 ghost use mathlib.Core.Path.{_≡_};
-ghost use Prim.Native.Nat.{_+_, _*_, _%_};
+ghost use Prim.Native.Nat.{_+_, _*_, _<_};
 ghost use lib.ListN.{length};
 ghost use Rattle.faults.specs.Values.{number};
 ghost use Rattle.timetable.specs.Times.{timeOf};
@@ -19,20 +19,20 @@ enum Named {
     Nothing,
 }
 
-// One number above, the other below: the lower 32 bits hold what remains of it.
-fn pack(above: u32, below: usize) -> u64
-    ensures { λ r. ⌜ r ≡ above * 4294967296 + below % 4294967296 ⌝ }
+// One number above, the other below.
+fn pack(above: u32, below: u32) -> u64
+    ensures { λ r. ⌜ r ≡ above * 4294967296 + below ⌝ }
 {
-    let low = (below % 4294967296) as u64;
-    above as u64 * 4294967296 + low
+    above as u64 * 4294967296 + below as u64
 }
 
 // A refusal's number above, its place below.
 fn pack_refusal(refusal: Refusal) -> u64
-    ensures { λ r. ⌜ r ≡ number (refusal .kind) * 4294967296 + (refusal .place) % 4294967296 ⌝ }
+    requires { ⌜ (refusal .place) < 4294967296 ⌝ }
+    ensures { λ r. ⌜ r ≡ number (refusal .kind) * 4294967296 + (refusal .place) ⌝ }
 {
     let kind = refusal.kind;
-    let place = refusal.place;
+    let place = refusal.place as u32;
     pack(kind.number(), place)
 }
 
@@ -78,7 +78,7 @@ pub extern "C" fn plan_judge(text: &[u8], cand: &[u8], room: &mut [u8], cycle: &
 {
     let a = judge::judge(text, cand, room, cycle);
     match a {
-        Verdict::Accepted(n) => pack(0, n),
+        Verdict::Accepted(n) => pack(0, n as u32),
         Verdict::Refused(refusal) => pack_refusal(refusal),
     }
 }
@@ -90,19 +90,20 @@ pub extern "C" fn plan_time(table: &[u8], term: u32) -> u64
 {
     let a = judge::time(table, TermNo(term));
     match a {
-        Time::At(t) => pack(0, t as usize),
+        Time::At(t) => pack(0, t),
         Time::Refused(refusal) => pack_refusal(refusal),
     }
 }
 
-// Where the faulty part starts above, its length below; 0 where nothing is shown.
+// Where the faulty part starts above, its length modulo 2^32 below; 0 where nothing is shown.
 #[no_mangle]
 pub extern "C" fn plan_shown<'a>(text: &'a [u8], cand: &'a [u8], number: u32, place: u32) -> u64
     ensures { λ r. ⌜ r ≡ packedPart place (length (shown number place (now (text .entry)) (now (cand .entry)))) ⌝ }
 {
-    let n = shown_length(text, cand, number, place);
-    if n == 0 {
+    let bytes = shown_length(text, cand, number, place);
+    if bytes == 0 {
         return 0;
     }
+    let n = (bytes % 4294967296) as u32;
     pack(place, n)
 }

@@ -1,5 +1,6 @@
 -- `judge_c::plan_judge` meets its contract. Assumes nothing.
-use Rattle.judge_c.proofs.Packing.{accepts, refuses}
+use Rattle.judge_c.proofs.Packing.{accepts, refuses, length-fits, place-fits}
+use native.Mathlib.Omega.{arith}
 use borrow.Author.Needs.{needs}
 use Rattle.judge_c.proofs.plan_judge.Statement.{statement}
 use Rattle.judge_c.proofs.plan_judge.Tie as tie
@@ -10,6 +11,11 @@ judge-requires c κs = search needs
 enum-known-a : tie.Need-enum-known-a
 enum-known-a c = search needs
 
+cast-pack : tie.Need-cast-pack
+cast-pack c =
+    let s = c .before .before .before .before .before .before .before .before .before .before .before .before .before .before .args in
+    omega (arith, length-fits (s .text .now) (s .cand .now) (rw (c .before .a .given .1) at (c .before .before .before .before .before .before .before .judge .ensures)))
+
 pack-requires : tie.Need-pack-requires
 pack-requires c κs = search needs
 
@@ -17,7 +23,9 @@ enum-known-a-2 : tie.Need-enum-known-a-2
 enum-known-a-2 c = search needs
 
 pack-refusal-requires : tie.Need-pack-refusal-requires
-pack-refusal-requires c κs = search needs
+pack-refusal-requires c κs =
+    let s = c .before .before .before .before .before .before .before .before .before .before .before .before .before .before .args in
+    place-fits (s .text .now) (s .cand .now) (rw (c .before .a2 .given .1) at (c .before .before .before .before .before .before .before .judge .ensures))
 
 same-length : tie.Need-same-length
 same-length c = search needs
@@ -43,6 +51,7 @@ plan-judge-spec =
     (tie.spec
     judge-requires
     enum-known-a
+    cast-pack
     pack-requires
     enum-known-a-2
     pack-refusal-requires
