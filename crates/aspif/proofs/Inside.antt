@@ -52,9 +52,10 @@ module _ {A : Type 0} {s : List ℕ} where
   inside-placed p at (found v n) l h = ends (h .ends v n refl .1)
   inside-placed p at (fault k q) l h = stops l
 
--- ---- fields
+-- ---- fields: each that begins within the text ends or is refused within it
 
 module _ (s : List ℕ) where
+  -- a fixed byte
   byte-inside : (b : ℕ) → 0 < b → (at : ℕ) → at ≤ length s → Inside s (byte b s at)
   unfolding byte
   byte-inside b h at l = go (eqb (byteAt s at) b) refl
@@ -63,6 +64,7 @@ module _ (s : List ℕ) where
       go true q = ends {n = at + 1} (omega (arith, there b s at h (eqb-true (byteAt s at) b q)))
       go false q = stops l
 
+  -- fixed bytes
   bytes-inside : (bs : List ℕ) → allPositive bs ≡ true → (at : ℕ) → at ≤ length s → Inside s (bytes bs s at)
   unfolding bytes allPositive
   bytes-inside [] h at l = ends l
@@ -70,17 +72,21 @@ module _ (s : List ℕ) where
       let p = positive-more (b ∷ bs) 0 (omega arith) h in
       inside-then _ _ (byte-inside b (p .0) at l) (λ u n i. bytes-inside bs (p .1) n i)
 
+  -- a space
   space-inside : (at : ℕ) → at ≤ length s → Inside s (byte 32 s at)
   space-inside = byte-inside 32 (lit< tt)
 
+  -- a natural, which is refused where it begins
   natural-inside : (k most at : ℕ) → at ≤ length s → Inside s (natural k most s at)
   natural-inside k most at l =
       inside-by _ (λ v n e. natural-within k most s at v n e .2) (λ i p e. omega (arith, natural-fault k most s at i p e))
 
+  -- a natural after a space
   nextNatural-inside : (k most at : ℕ) → at ≤ length s → Inside s (nextNatural k most s at)
   unfolding nextNatural
   nextNatural-inside k most at l = inside-then _ _ (space-inside at l) (λ u n i. natural-inside k most n i)
 
+  -- an integer: a fault behind its minus is placed at the minus
   integer-inside : (low high at : ℕ) → at ≤ length s → Inside s (integer low high s at)
   unfolding integer negative
   integer-inside low high at l =
@@ -88,25 +94,30 @@ module _ (s : List ℕ) where
       (inside-then _ _ (inside-placed at (at + 1) _ l (natural-ahead s (at + 1) 5 low)) (λ v n i. inside-pick (eqb v 0) (stops l) (ends i)))
       (inside-then _ _ (natural-inside 5 high at l) (λ v n i. ends i))
 
+  -- an integer after a space
   nextInteger-inside : (low high at : ℕ) → at ≤ length s → Inside s (nextInteger low high s at)
   unfolding nextInteger
   nextInteger-inside low high at l = inside-then _ _ (space-inside at l) (λ u n i. integer-inside low high n i)
 
+  -- a literal
   literal-inside : (at : ℕ) → at ≤ length s → Inside s (literal s at)
   unfolding literal
   literal-inside at l =
       inside-then _ _ (integer-inside 4096 4096 at l) (λ v n i. inside-pick (eqb v 0) (stops l) (ends i))
 
+  -- an atom after a space
   nextAtom-inside : (k at : ℕ) → at ≤ length s → Inside s (nextAtom k s at)
   unfolding nextAtom atom
   nextAtom-inside k at l =
       inside-then _ _ (space-inside at l) (λ u m j.
       inside-then _ _ (natural-inside 5 4096 m j) (λ v n i. inside-pick (eqb v 0) (stops j) (ends i)))
 
+  -- a term after a space
   nextTerm-inside : (at : ℕ) → at ≤ length s → Inside s (nextTerm s at)
   unfolding nextTerm
   nextTerm-inside = nextNatural-inside 5 1023
 
+  -- an element after a space
   nextElement-inside : (at : ℕ) → at ≤ length s → Inside s (nextElement s at)
   unfolding nextElement
   nextElement-inside = nextNatural-inside 5 1023
@@ -120,6 +131,7 @@ module _ (s : List ℕ) where
       here k p true e = (cc)
       here k p false e = let z : _≡_ {A = ℕ} 0 1 = (cc) in absurd (omega arith)
 
+  -- an item of a list
   item-inside : (what : Item) (at : ℕ) → at ≤ length s → Inside s (item what s at)
   unfolding item
   item-inside of.Atom = nextAtom-inside 5
@@ -128,6 +140,7 @@ module _ (s : List ℕ) where
   item-inside of.Element = nextElement-inside
   item-inside of.Char = char-inside
 
+  -- so many items
   items-inside : (what : Item) (n at : ℕ) → at ≤ length s → Inside s (items what n s at)
   unfolding items
   items-inside what zero at l = ends l
@@ -135,22 +148,26 @@ module _ (s : List ℕ) where
       inside-then _ _ (item-inside what at l) (λ x m i.
       inside-then _ _ (items-inside what n m i) (λ xs o j. ends j))
 
+  -- a count and its items
   counted-inside : (what : Item) (k most at : ℕ) → at ≤ length s → Inside s (counted what k most s at)
   unfolding counted
   counted-inside what k most at l = inside-then _ _ (nextNatural-inside k most at l) (λ n m i. items-inside what n m i)
 
+  -- a string behind its length
   string-inside : (at : ℕ) → at ≤ length s → Inside s (string s at)
   unfolding string stringLength
   string-inside at l =
       inside-then _ _ (inside-then _ _ (nextNatural-inside 5 4096 at l) (λ v n i. inside-then _ _ (space-inside n i) (λ u m j. ends j)))
       (λ v n i. items-inside of.Char v n i)
 
+  -- the rest of a line
   rest-inside : (at : ℕ) → at ≤ length s → Inside s (rest s at)
   unfolding rest
   rest-inside at l = items-inside of.Char (plain s at) at l
 
-  -- ---- lines
+  -- ---- lines, likewise
 
+  -- counted literals
   literals-inside : (at : ℕ) → at ≤ length s → Inside s (literals s at)
   unfolding literals
   literals-inside = counted-inside of.Literal 5 4096
@@ -164,15 +181,18 @@ module _ (s : List ℕ) where
       go _ (ends {v} {n} i) w = let d = w .ends v n refl in h v n (omega arith) i
       go _ (stops i) w = stops i
 
+  -- a body
   body-inside : (at : ℕ) → at ≤ length s → Inside s (body s at)
   unfolding body bodyKind
   body-inside at l =
       inside-then _ _ (selector-inside _ 1 at l (λ k n j i. inside-pick (eqb k 0) (ends i) (stops j))) (λ u n i. literals-inside n i)
 
+  -- the type of a theory statement
   theoryType-inside : (at : ℕ) → at ≤ length s → Inside s (theoryType s at)
   unfolding theoryType
   theoryType-inside at l = selector-inside _ 6 at l (λ k n j i. inside-pick (eqb k 3) (stops j) (ends i))
 
+  -- what a theory atom's line begins with
   front-inside : (at : ℕ) → at ≤ length s → Inside s (front s at)
   unfolding front
   front-inside at l =
@@ -180,12 +200,14 @@ module _ (s : List ℕ) where
       inside-then _ _ (nextTerm-inside n i) (λ p m j.
       inside-then _ _ (counted-inside of.Element 5 4096 m j) (λ vs o h. ends h)))
 
+  -- the end of a line
   line-inside : (place : ℕ) (x : Statement) (at : ℕ) → at ≤ length s → Inside s (lineOf place x s at)
   unfolding lineOf
   line-inside place x at l = inside-then _ _ (byte-inside 10 (lit< tt) at l) (λ u n i. ends i)
 
-  -- a line whose first byte stands within the text
+  -- a line, by the place of its first byte
   module _ (place : ℕ) where
+    -- a rule
     rule-inside : (at : ℕ) → at ≤ length s → Inside s (ruleLine place s at)
     unfolding ruleLine heads
     rule-inside at l =
@@ -193,24 +215,28 @@ module _ (s : List ℕ) where
         inside-then _ _ (counted-inside of.Atom (pick (eqb kind 0) 4 5) (pick (eqb kind 0) 1 4096) n i) (λ hs m j.
         inside-then _ _ (body-inside m j) (λ ls o h. line-inside place _ o h)))
 
+    -- an output
     output-inside : (at : ℕ) → at ≤ length s → Inside s (outputLine place s at)
     unfolding outputLine
     output-inside at l =
         inside-then _ _ (string-inside at l) (λ bs n i.
         inside-then _ _ (literals-inside n i) (λ ls m j. line-inside place _ m j))
 
+    -- a numeric term
     numeric-inside : (at : ℕ) → at ≤ length s → Inside s (numericLine place s at)
     unfolding numericLine
     numeric-inside at l =
         inside-then _ _ (nextTerm-inside at l) (λ u n i.
         inside-then _ _ (nextInteger-inside 1000000 1000000 n i) (λ w m j. line-inside place _ m j))
 
+    -- a string term
     stringLine-inside : (at : ℕ) → at ≤ length s → Inside s (stringLine place s at)
     unfolding stringLine
     stringLine-inside at l =
         inside-then _ _ (nextTerm-inside at l) (λ u n i.
         inside-then _ _ (string-inside n i) (λ bs m j. line-inside place _ m j))
 
+    -- a compound term
     compound-inside : (at : ℕ) → at ≤ length s → Inside s (compoundLine place s at)
     unfolding compoundLine
     compound-inside at l =
@@ -218,6 +244,7 @@ module _ (s : List ℕ) where
         inside-then _ _ (nextInteger-inside 3 1023 n i) (λ t m j.
         inside-then _ _ (counted-inside of.Term 5 4096 m j) (λ us o h. line-inside place _ o h)))
 
+    -- an element
     element-inside : (at : ℕ) → at ≤ length s → Inside s (elementLine place s at)
     unfolding elementLine
     element-inside at l =
@@ -225,10 +252,12 @@ module _ (s : List ℕ) where
         inside-then _ _ (counted-inside of.Term 5 4096 n i) (λ us m j.
         inside-then _ _ (literals-inside m j) (λ ls o h. line-inside place _ o h)))
 
+    -- a theory atom
     theory-inside : (at : ℕ) → at ≤ length s → Inside s (theoryLine place s at)
     unfolding theoryLine
     theory-inside at l = inside-then _ _ (front-inside at l) (λ f n i. line-inside place _ n i)
 
+    -- a theory atom with operator and bound
     guarded-inside : (at : ℕ) → at ≤ length s → Inside s (guardedLine place s at)
     unfolding guardedLine
     guarded-inside at l =
@@ -236,12 +265,14 @@ module _ (s : List ℕ) where
         inside-then _ _ (nextTerm-inside n i) (λ g m j.
         inside-then _ _ (nextTerm-inside m j) (λ u o h. line-inside place _ o h)))
 
+    -- a comment
     comment-inside : (at : ℕ) → at ≤ length s → Inside s (commentLine place s at)
     unfolding commentLine
     comment-inside at l =
         inside-then _ _ (space-inside at l) (λ u n i.
         inside-then _ _ (rest-inside n i) (λ bs m j. line-inside place _ m j))
 
+    -- a theory statement of a type
     theoryOf-inside : (k at : ℕ) → at ≤ length s → Inside s (theoryOf k place s at)
     unfolding theoryOf
     theoryOf-inside k at l =
@@ -251,6 +282,7 @@ module _ (s : List ℕ) where
         (inside-either (eqb k 4) _ _ at (element-inside at l)
         (inside-either (eqb k 5) _ _ at (theory-inside at l) (guarded-inside at l)))))
 
+    -- a theory statement
     theoryPart-inside : (at : ℕ) → at ≤ length s → Inside s (theoryPart place s at)
     unfolding theoryPart
     theoryPart-inside at l = inside-then _ _ (theoryType-inside at l) (λ k n i. theoryOf-inside k n i)
@@ -266,11 +298,13 @@ module _ (s : List ℕ) where
 
   -- ---- the text
 
+  -- the line `0`
   last-inside : (at : ℕ) → at ≤ length s → Inside s (lastLine s at)
   unfolding lastLine
   last-inside at l =
       inside-then _ _ (byte-inside 10 (lit< tt) at l) (λ u n i. inside-pick (ltb n (length s)) (stops i) (ends i))
 
+  -- the lines behind the first
   lines-inside : (n at : ℕ) → at ≤ length s → Inside s (lines n s at)
   unfolding lines
   lines-inside zero at l = stops l
@@ -281,12 +315,14 @@ module _ (s : List ℕ) where
       (inside-then _ _ (statement-inside at l k m i) (λ x o j.
       inside-then _ _ (lines-inside n o j) (λ xs p h. ends h))))
 
+  -- the first line
   first-inside : (at : ℕ) → at ≤ length s → Inside s (firstLine s at)
   unfolding firstLine noTag allPositive
   first-inside at l =
       inside-then _ _ (bytes-inside (97 ∷ 115 ∷ 112 ∷ 32 ∷ 49 ∷ 32 ∷ 48 ∷ 32 ∷ 48 ∷ []) refl at l) (λ u n i.
       inside-pick (eqb (byteAt s n) 32) (stops i) (byte-inside 10 (lit< tt) n i))
 
+  -- a whole plan
   plan-inside : (at : ℕ) → at ≤ length s → Inside s (plan s at)
   unfolding plan
   plan-inside at l = inside-then _ _ (first-inside at l) (λ u n i. lines-inside (length s) n i)
