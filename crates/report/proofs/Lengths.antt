@@ -2,17 +2,16 @@
 use Prim.Native.Nat.{ℕ, zero, suc, _+_, _*_, _/_, _%_, _≤_, min}
 use mathlib.Core.Path.{_≡_, refl, ap, sym, _∙_}
 use mathlib.Core.Bool.{Bool, true, false}
-use mathlib.Core.List.{List, [], _∷_, _++_, append-assoc}
+use mathlib.Core.List.{List, [], _∷_, _++_}
 use native.Mathlib.Omega.{arith}
 use lib.Dec.{eqb, ltb}
 use native.Mathlib.Nat.{zero-add}
 use lib.Seq.{sets-eq}
-use lib.ListN.{length, take, drop, replicate, length-append, length-take, length-map}
+use lib.ListN.{length, take, drop, replicate, length-append, length-take}
 use Rattle.faults.specs.Answer.{got, pick}
-use Rattle.timetable.specs.Word.{word, wordAt}
-use Rattle.timetable.specs.Table.{Record, Content, headerBytes, recordBytes, atomBytes, tableOf, nameCount, atomCount, recordsAt, lastTerm, namesOf, within}
-use Rattle.timetable.proofs.Words.{word-here}
-use Rattle.timetable.proofs.Bounds.{few, is-within}
+use Rattle.timetable.specs.Table.{Record, Content, tableOf, nameCount, atomCount, recordsAt, within}
+use Rattle.timetable.proofs.Bounds.{names-few}
+use Rattle.timetable.proofs.Content.{front-back}
 use Rattle.timetable.proofs.Writing.{length-table}
 use Rattle.judge.specs.Plan.{Rooms}
 use Rattle.judge.specs.Judged.{refusal, Result, accepting, Judged, cyclic, timed, unfounded, founded, broken, whole, unreadable, ready}
@@ -76,21 +75,9 @@ refused-few k p cycle h =
 -- ---- the names of a timetable
 
 module _ (c : Content) (h : within c ≡ true) (rest : List ℕ) where
-  names-few : length (c .records) ≤ 1024
-  names-few = omega (arith, few 0 lastTerm (namesOf (c .records)) (omega arith) (is-within c h .names), length-map (c .records) (λ (r : Record). r .name))
-
-  -- the first word counts them
-  names-counted : nameCount (tableOf c ++ rest) ≡ length (c .records)
-  unfolding tableOf headerBytes
-  names-counted =
-      word-here (tableOf c ++ rest) 0 (length (c .records))
-      (word (length (c .atoms)) ++ (word 16 ++ (word (16 + 8 * length (c .records)) ++ (recordBytes (c .records) ++ (atomBytes (c .atoms) ++ rest)))))
-      (omega (arith, names-few))
-      (simp append-assoc)
-
   -- their records stand within it
   names-within : 16 + 8 * nameCount (tableOf c ++ rest) ≤ length (tableOf c ++ rest)
-  names-within = omega (arith, names-counted, length-table c, length-append (tableOf c) rest)
+  names-within = omega (arith, front-back c h rest .names, length-table c, length-append (tableOf c) rest)
 
 -- ---- a judged result
 
@@ -105,7 +92,7 @@ judged-fits text cand b r out j h n = go j
     of-table : (c : Content) → within c ≡ true → r ≡ accepting b (got (tableOf c)) → Reportable (r .verdict) (r .rooms .room) × Fits (lines (r .verdict) (r .rooms)) out 0
     of-table c w e =
         let rest = drop (length (tableOf c)) (b .room) in
-        rw e (names-within c w rest, record { fits = omega (arith, n, accepted-few (tableOf c ++ rest) (omega (arith, names-counted c w rest, names-few c w rest))) })
+        rw e (names-within c w rest, record { fits = omega (arith, n, accepted-few (tableOf c ++ rest) (omega (arith, front-back c w rest .names, names-few c w))) })
 
     go : Judged text cand b r → Reportable (r .verdict) (r .rooms .room) × Fits (lines (r .verdict) (r .rooms)) out 0
     go (unreadable k p e f) = of-refusal k p (ap (λ (s : Result). s .verdict) f)

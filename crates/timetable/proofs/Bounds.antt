@@ -6,7 +6,7 @@ use mathlib.Core.List.{List, [], _∷_}
 use native.Mathlib.Omega.{arith}
 use borrow.Author.Tests.{leb-true}
 use lib.Dec.{leb}
-use lib.ListN.{length}
+use lib.ListN.{length, length-map}
 use Rattle.timetable.specs.Table.{Record, Content, lastTerm, latest, lastAtom, ascending, inTime, namesOf, within}
 
 pub and-left : (a b : Bool) → a && b ≡ true → a ≡ true
@@ -69,3 +69,8 @@ is-within c h =
 pub from-within : (c : Content) → Within c → within c ≡ true
 unfolding within
 from-within c w = rw (w .names, w .times, w .atoms)
+
+-- at most 1,024 names
+pub names-few : (c : Content) → within c ≡ true → length (c .records) ≤ 1024
+names-few c h =
+    omega (arith, few 0 lastTerm (namesOf (c .records)) (omega arith) (is-within c h .names), length-map (c .records) (λ (r : Record). r .name))

@@ -2,15 +2,15 @@
 use Prim.Native.Nat.{ℕ, zero, suc, _+_, _*_, _≤_}
 use mathlib.Core.Path.{_≡_, refl, sym, ap, _∙_}
 use mathlib.Core.Bool.{true}
-use mathlib.Core.List.{List, [], _∷_, _++_, append-assoc}
+use mathlib.Core.List.{List, [], _∷_, _++_, append-assoc, append-nil}
 use mathlib.Core.Logic.{_↔_}
 use native.Mathlib.Omega.{arith}
 use native.Mathlib.Nat.{add-zero}
-use lib.ListN.{length, drop, drop-of-length-le, length-map}
+use lib.ListN.{length, drop, drop-of-length-le}
 use Rattle.timetable.specs.Word.{word, wordAt}
 use Rattle.timetable.specs.Table.{Record, Content, recordBytes, atomBytes, headerBytes, tableOf, lastTerm, lastAtom, ascending, inTime, namesOf, within, nameCount, atomCount, recordsAt, atomsAt, shown, isTable}
 use Rattle.timetable.proofs.Words.{Bytes, word-here, word-next, word-forth}
-use Rattle.timetable.proofs.Bounds.{first, few, first-time, is-within}
+use Rattle.timetable.proofs.Bounds.{first, few, names-few, first-time, is-within}
 use Rattle.timetable.proofs.Writing.{length-table}
 use Rattle.timetable.proofs.Reading.{passed, passes}
 
@@ -50,40 +50,61 @@ pub record Read (s : List ℕ) (c : Content) : Type 0 where
   pub is : isTable s ≡ true
   pub content : shown s ≡ c
 
--- the bytes of a content within the bounds are a table, and show that content
-pub read-back : (c : Content) → within c ≡ true → Read (tableOf c) c
+-- the bytes of a content, and what stands behind them: header and records read back
+pub record Front (s : List ℕ) (c : Content) (rest : List ℕ) : Type 0 where
+  pub names : nameCount s ≡ length (c .records)
+  pub atoms : atomCount s ≡ length (c .atoms)
+  pub first-offset : wordAt s 8 ≡ 16
+  pub second-offset : wordAt s 12 ≡ 16 + 8 * length (c .records)
+  pub records : recordsAt s (nameCount s) 16 ≡ c .records
+  pub after : drop (16 + 8 * length (c .records)) s ≡ atomBytes (c .atoms) ++ rest
+
+pub front-back : (c : Content) → within c ≡ true → (rest : List ℕ) → Front (tableOf c ++ rest) c rest
 unfolding tableOf headerBytes
-read-back c bounds =
+front-back c bounds rest =
     let g = is-within c bounds in
     let rs = c .records in
     let xs = c .atoms in
     let n = length rs in
     let m = length xs in
-    let s = tableOf c in
+    let s = tableOf c ++ rest in
     let k = 16 + 8 * n in
-    let hn : n ≤ 1024 = omega (arith, few 0 lastTerm (namesOf rs) (omega arith) (g .names), length-map rs (λ (r : Record). r .name)) in
+    let hn : n ≤ 1024 = names-few c bounds in
     let hm : m ≤ 4096 = omega (arith, few 1 lastAtom xs (omega arith) (g .atoms)) in
-    let body = recordBytes rs ++ atomBytes xs in
+    let body = recordBytes rs ++ (atomBytes xs ++ rest) in
     let e₀ : drop 0 s ≡ word n ++ (word m ++ (word 16 ++ (word k ++ body))) = simp append-assoc in
     let e₁ : drop 4 s ≡ word m ++ (word 16 ++ (word k ++ body)) = word-next s 0 n _ e₀ in
     let e₂ : drop 8 s ≡ word 16 ++ (word k ++ body) = word-next s 4 m _ e₁ in
     let e₃ : drop 12 s ≡ word k ++ body = word-next s 8 16 _ e₂ in
     let e₄ : drop 16 s ≡ body = word-next s 12 k _ e₃ in
     let w₀ : wordAt s 0 ≡ n = word-here s 0 n _ (omega arith) e₀ in
-    let w₁ : wordAt s 4 ≡ m = word-here s 4 m _ (omega arith) e₁ in
-    let w₂ : wordAt s 8 ≡ 16 = word-here s 8 16 _ (omega arith) e₂ in
-    let w₃ : wordAt s 12 ≡ k = word-here s 12 k _ (omega arith) e₃ in
-    let b = records-back s rs 0 16 (atomBytes xs) (g .names) (g .times) e₄ in
-    let r : recordsAt s (nameCount s) 16 ≡ rs = rw w₀ (b .same) in
-    let a : atomsAt s (atomCount s) (16 + 8 * nameCount s) ≡ xs = rw (w₀, w₁) (atoms-back s xs 1 k (g .atoms) (b .after)) in
-    let same : shown s ≡ c = rw (r, a) in
+    let b = records-back s rs 0 16 (atomBytes xs ++ rest) (g .names) (g .times) e₄ in
+    record {
+      names = w₀;
+      atoms = word-here s 4 m _ (omega arith) e₁;
+      first-offset = word-here s 8 16 _ (omega arith) e₂;
+      second-offset = word-here s 12 k _ (omega arith) e₃;
+      records = rw w₀ (b .same);
+      after = b .after;
+    }
+
+-- the bytes of a content within the bounds are a table, and show that content
+pub read-back : (c : Content) → within c ≡ true → Read (tableOf c) c
+read-back c bounds =
+    let s = tableOf c in
+    let f : Front s c [] = rw append-nil at (front-back c bounds []) in
+    let w = f .names in
+    let e : drop (16 + 8 * length (c .records)) s ≡ atomBytes (c .atoms) = rw append-nil at (f .after) in
+    let a : atomsAt s (atomCount s) (16 + 8 * nameCount s) ≡ c .atoms =
+      rw (w, f .atoms) (atoms-back s (c .atoms) 1 (16 + 8 * length (c .records)) (is-within c bounds .atoms) e) in
+    let same : shown s ≡ c = rw (f .records, a) in
     record {
       is =
           passes s
           (record {
-            whole = omega (arith, length-table c);
-            first = w₂;
-            second = omega arith;
+            whole = omega (arith, length-table c, w, f .atoms);
+            first = f .first-offset;
+            second = omega (arith, w, f .second-offset);
             bounds = rw same bounds;
           });
       content = same;

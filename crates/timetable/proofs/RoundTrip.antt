@@ -7,14 +7,14 @@ use native.Mathlib.Omega.{arith}
 use native.Mathlib.Nat.{add-zero, zero-add}
 use borrow.Author.Tests.{eq-eqb, ne-eqb, le-leb}
 use lib.Dec.{eqb}
-use lib.ListN.{length, length-map}
+use lib.ListN.{length}
 use Rattle.faults.specs.Answer.{got, refused, pick}
 use Rattle.faults.specs.Marks.{isMarked, marks, markedFrom}
-use Rattle.timetable.specs.Table.{Record, Content, tableOf, lastTerm, latest, lastAtom, inTime, namesOf, within, isTable}
+use Rattle.timetable.specs.Table.{Content, tableOf, lastTerm, latest, lastAtom, inTime, namesOf, within, isTable}
 use Rattle.timetable.specs.Times.{timeAmong, timeOf}
 use Rattle.timetable.specs.Given.{timeAt, recordsOf, given, Timely}
 use Rattle.timetable.proofs.Marks.{marked-ascend}
-use Rattle.timetable.proofs.Bounds.{few, is-within, from-within}
+use Rattle.timetable.proofs.Bounds.{few, names-few, is-within, from-within}
 use Rattle.timetable.proofs.Writing.{length-table}
 use Rattle.timetable.proofs.Content.{read-back}
 
@@ -64,8 +64,7 @@ longest c h =
     omega (
       arith,
       length-table c,
-      few 0 lastTerm (namesOf (c .records)) (omega arith) (g .names),
-      length-map (c .records) (λ (r : Record). r .name),
+      names-few c h,
       few 1 lastAtom (c .atoms) (omega arith) (g .atoms),
     )
 
