@@ -38,7 +38,7 @@ uint64_t plan_judge(const uint8_t *text, size_t text_length,
  * number below (it is not in the timetable). */
 uint64_t plan_time(const uint8_t *table, size_t table_length, uint32_t term);
 
-/* The faulty part for a refusal: its start above, its length in bytes below; 0 if there is nothing to show.
+/* The faulty part for a refusal: its start above, its length in bytes, modulo 2^32, below; 0 if there is nothing to show.
  * For the numbers 3, 4, 5, 6 and 8 it is a part of text, for 7 a part of cand; for every other number, and for a place
  * beyond the end, there is nothing. */
 uint64_t plan_shown(const uint8_t *text, size_t text_length,

@@ -40,14 +40,17 @@ module _ (text cand : List ℕ) (b : Rooms) (r : Result) where
   times (ready q e (whole f (founded g (cyclic cs h i)))) n v = never (sym (ap (λ (s : Result). s .verdict) i) ∙ v)
   times (ready q e (whole f (founded g (timed u h ns all j)))) n v =
       let c = content ns u (q .atoms) in
-      let o = front-back c (content-within text cand b q e u h ns all) (drop (length (tableOf c)) (b .room)) in
-      (q, e, record {
-        names = ns;
-        all = all;
-        time = u;
-        earliest = h;
-        is = rw (j, table-got text cand b q e u h ns all, o .records, o .names, o .atoms, records-many ns u);
-      })
+      let o = front-back c (content-within text cand b q e u h ns all) (drop (length (tableOf c)) (b .room)) in (
+        q,
+        e,
+        record {
+          names = ns;
+          all = all;
+          time = u;
+          earliest = h;
+          is = rw (j, table-got text cand b q e u h ns all, o .records, o .names, o .atoms, records-many ns u);
+        },
+      )
 
 -- every result is told
 pub tells : Tells

@@ -96,7 +96,7 @@ read-back c bounds =
     let w = f .names in
     let e : drop (16 + 8 * length (c .records)) s ≡ atomBytes (c .atoms) = rw append-nil at (f .after) in
     let a : atomsAt s (atomCount s) (16 + 8 * nameCount s) ≡ c .atoms =
-      rw (w, f .atoms) (atoms-back s (c .atoms) 1 (16 + 8 * length (c .records)) (is-within c bounds .atoms) e) in
+    rw (w, f .atoms) (atoms-back s (c .atoms) 1 (16 + 8 * length (c .records)) (is-within c bounds .atoms) e) in
     let same : shown s ≡ c = rw (f .records, a) in
     record {
       is =
