@@ -1,6 +1,6 @@
 -- The grammar of a plan, one definition a sentence of document 01, 'Reading the text'. It can be run.
 -- A reader is given the place of the line's first byte where that is the place of a refusal or of what the line says. Assumes nothing.
-use Prim.Native.Nat.{ℕ, zero, suc, _+_, _*_, _/_, _%_}
+use Prim.Native.Nat.{ℕ, zero, suc, _+_, _/_, _%_}
 use mathlib.Core.List.{List, [], _∷_, map}
 use lib.ListN.{length}
 use lib.Dec.{eqb, ltb}

@@ -1,6 +1,5 @@
 // The candidate: from bytes into a bitmap, or 7.
 ghost use mathlib.Core.Path.{_≡_};
-ghost use lib.ListN.{length};
 ghost use Rattle.fields.specs.Values.{asAtom, asPassed};
 ghost use Rattle.aspif.specs.Grammar.{answer};
 ghost use Rattle.aspif.specs.Candidate.{atomAbove, ending, ascending, candidate, Blank};

@@ -4,18 +4,13 @@ use mathlib.Core.List.{List, map}
 use Prim.Native.Nat.{ℕ}
 use native.Mathlib.Omega.{arith}
 use lib.IntN.{ℤ}
-use Rattle.diffs.specs.Diff.{Diff, KeepsAll, whole, Earliest}
+use Rattle.diffs.specs.Diff.{Diff, KeepsAll, whole}
 use Rattle.diffs.specs.Answer.{at, Among, Shown, Decided, timed, cyclic}
 use Rattle.diffs.specs.declared.Outcome.{Outcome}
-use Rattle.diffs.specs.declared.Outcome.the-variants.{Times, Cycle}
+use Rattle.diffs.specs.declared.Outcome.the-variants.{Cycle}
 use Rattle.diffs.proofs.Cycles.{exclusive}
 
 module _ {o : Outcome} {m : ℕ} {c : ℕ → Diff} {labels t room room′ : List ℕ} where
-  -- where `decide` answered times, they are the earliest, and the room is as it was
-  pub when-times : Decided o m c labels t room room′ → o ≡ Times → Earliest (Among m c) (at t) × (room′ ≡ room)
-  when-times (timed e u r) f = (u, r)
-  when-times (cyclic n e s) f = let z : _≡_ {A = ℕ} 0 1 = (cc) in absurd (omega arith)
-
   -- where `decide` answered a cycle, it is shown
   pub when-cycle : (n : ℕ) → Decided o m c labels t room room′ → o ≡ Cycle n → Shown m c labels room room′ n
   when-cycle n (timed e u r) f = let z : _≡_ {A = ℕ} 0 1 = (cc) in absurd (omega arith)

@@ -34,7 +34,3 @@ module _ (S S′ : Diff → Type 0) (more : (d : Diff) → S d → S′ d) where
   -- where the old times keep the differences added, nothing moves
   pub nothing-moves : (u v : ℕ → ℕ) → Earliest S u → Earliest S′ v → KeepsAll (whole u) S′ → (n : ℕ) → v n ≡ u n
   nothing-moves u v e f k = earliest-unique S′ v u f (still-earliest u e k)
-
-  -- two ways to say the same set have the same earliest times
-  pub same-earliest : ((d : Diff) → S′ d → S d) → (u : ℕ → ℕ) → Earliest S u → Earliest S′ u
-  same-earliest less u e = still-earliest u e (λ d s. e .keeps d (less d s))

@@ -138,7 +138,3 @@ module _ (t : List ℕ) (o : ℕ) where
   pub on-more : (ws xs : List ℕ) {t′ t″ : List ℕ} {o′ o″ : ℕ} → On t o ws t′ o′ → t″ ≡ sets t′ o′ xs → o″ ≡ o′ + length xs → On t o (ws ++ xs) t″ o″
   on-more ws xs h p q =
       record { tape = rw (p, h .tape, h .next, sets-append t o ws xs); next = omega (arith, length-append ws xs, h .next) }
-
-  pub on-tape : {A : Type 0} (words : A → List ℕ) (x : A) (n : ℕ) {t′ : List ℕ} {o′ : ℕ} → On t o (words x) t′ o′ → found (written t′ o′) n ≡ onTape words t o (found x n)
-  unfolding onTape
-  on-tape words x n h = rw (h .tape, h .next)

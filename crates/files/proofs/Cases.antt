@@ -14,7 +14,6 @@ use Rattle.fields.proofs.Naturals.{there}
 use Rattle.fields.proofs.Taping.{nextNatural-within}
 use Rattle.fields.proofs.Ahead.{nextNatural-far, byte-ahead}
 use Rattle.files.specs.Cases.{caseLength, caseOf, caseAt}
-use Rattle.files.specs.declared.container.Case.{Case}
 use Rattle.files.specs.declared.container.Case.the-variants.{At, Nothing}
 
 -- a length is at most 60,000, and its line ends within the container

@@ -24,7 +24,7 @@ use Rattle.timetable.specs.Table.{Content, tableOf, lastTerm, latest, lastAtom,
 use Rattle.timetable.specs.Times.{timeAmong, timeOf}
 use Rattle.timetable.specs.Given.{recordsOf}
 use Rattle.timetable.proofs.Bounds.{from-within}
-use Rattle.timetable.proofs.RoundTrip.{longest, read-table}
+use Rattle.timetable.proofs.RoundTrip.{read-table}
 use Rattle.judge.specs.Plan.{Rooms, Ready, readable, InForce}
 use Rattle.judge.specs.Judged.{over, inTime as timely, table}
 use Rattle.judge.proofs.Small.{said-small, bound-low}
@@ -106,10 +106,6 @@ module _ (text cand : List ℕ) (b : Rooms) (q : Ready) (e : readable text cand 
     pub table-got : table ns u (q .atoms) ≡ got (tableOf (content ns u (q .atoms)))
     unfolding table
     table-got = rw (none-late ns u (earliest-small u h))
-
-    -- it fits the room
-    pub table-fits : length (tableOf (content ns u (q .atoms))) ≤ length (b .room)
-    table-fits = omega (arith, longest (content ns u (q .atoms)) content-within, read text cand b q e .room)
 
     -- and what is read from the room's first bytes is the time of a name, and 21 for every other number
     pub reads-back : (m : ℕ) → timeOf (take (length (tableOf (content ns u (q .atoms)))) (over (tableOf (content ns u (q .atoms))) (b .room))) m ≡ pick (among m ns) (got (u m)) (refused 21 m)

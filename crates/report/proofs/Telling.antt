@@ -1,6 +1,6 @@
 -- What is printed tells what was found: names with their earliest times, or the atoms of a negative cycle. Assumes nothing.
 use Prim.Native.Nat.{ℕ}
-use mathlib.Core.Path.{_≡_, refl, sym, ap, _∙_}
+use mathlib.Core.Path.{_≡_, sym, ap, _∙_}
 use mathlib.Core.List.{List, _++_}
 use native.Mathlib.Omega.{arith}
 use lib.ListN.{length, drop, length-map}
@@ -13,8 +13,8 @@ use Rattle.judge.specs.Plan.{Rooms, Ready, readable}
 use Rattle.judge.specs.Judged.{acceptance, refusal, Result, Judged, cyclic, timed, unfounded, founded, broken, whole, unreadable, ready}
 use Rattle.judge.specs.Demand2.{ShowsCycle}
 use Rattle.judge.proofs.Tables.{content, content-within, table-got}
-use Rattle.report.specs.Report.{two, listLine, recordLines, accepted, refused, acceptedLines, refusedLines, lines}
-use Rattle.report.specs.Told.{Times, Told, Tells}
+use Rattle.report.specs.Report.{two, listLine, refused, acceptedLines, refusedLines, lines}
+use Rattle.report.specs.Told.{Times, Tells}
 
 -- how many records names have
 records-many : (ns : List ℕ) (u : ℕ → ℕ) → length (recordsOf ns u) ≡ length ns

@@ -9,7 +9,6 @@ ghost use Rattle.timetable.specs.Table.{recordsAt};
 ghost use Rattle.judge.specs.Values.{asVerdict, rooms};
 ghost use Rattle.report.specs.Report.{decimal, next, two, nexts, listLine, recordLine, recordLines, acceptedLines, refusedLines, lines, Reported};
 ghost use Rattle.report.specs.Steps.{Put, Fits, Legible, Reportable};
-use faults::Kind;
 use faults::Refusal;
 use judge::Verdict;
 use timetable::word_at;

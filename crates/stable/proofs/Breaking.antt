@@ -6,7 +6,6 @@ use mathlib.Core.Path.{_≡_, refl, ap, _∙_, sym}
 use native.Mathlib.Omega.{arith}
 use lib.ListN.{length, getD}
 use Rattle.faults.specs.Answer.{pick}
-use Rattle.aspif.specs.Statements.{rule}
 use Rattle.aspif.specs.Grammar.{plainHead}
 use Rattle.aspif.specs.Words.{word, listAt, literalsAt, after, saysAt, linesFrom, Taped}
 use Rattle.stable.specs.Meaning.{Atoms, bodyTrue, brokenRule, broken, unbroken, brokenAt, firstBroken}

@@ -32,15 +32,6 @@ module _ (X : Atoms) where
   pub unbroken-iff : (ls : List Line) → (firstBroken X ls ≡ unbroken) ↔ Unbroken X ls
   unbroken-iff ls = ((λ e. each-said (λ s. broken X s ≡ false) ls (whole-each ls e)), (λ f. each-whole ls (said-each (λ s. broken X s ≡ false) ls f)))
 
-  each-first : (ls : List Line) (x : Line) (ms : List Line) → Each (λ s. broken X s ≡ false) ls → broken X (x .says) ≡ true → firstBroken X (ls ++ (x ∷ ms)) ≡ brokenAt (x .place)
-  unfolding firstBroken
-  each-first [] x ms e b = rw b
-  each-first (y ∷ ls) x ms e b = rw (e .0) (each-first ls x ms (e .1) b)
-
-  -- a broken rule behind lines none of which is broken is the first
-  pub first-of : (ls : List Line) (x : Line) (ms : List Line) → Unbroken X ls → broken X (x .says) ≡ true → firstBroken X (ls ++ (x ∷ ms)) ≡ brokenAt (x .place)
-  first-of ls x ms u b = each-first ls x ms (said-each (λ s. broken X s ≡ false) ls u) b
-
   -- where a place is shown, a rule that stands there is broken, and those before it are not
   pub record FirstAt (ls : List Line) (p : ℕ) : Type 0 where
     pub before : List Line

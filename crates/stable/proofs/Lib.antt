@@ -16,7 +16,5 @@ pub mod Joining
 pub mod Said
 pub mod FirstBroken
 pub mod Stability
-pub mod Agreeing
-pub mod Bitmaps
 pub mod Witness
 pub mod Cases

@@ -45,11 +45,6 @@ said-more [] ms s n = absurd n
 said-more (x ∷ xs) ms s (inl q) = inl q
 said-more (x ∷ xs) ms s (inr q) = inr (said-more xs ms s q)
 
--- before them or behind
-pub said-after : (ls ms : List Line) (s : Statement) → Says ms s → Says (ls ++ ms) s
-said-after [] ms s q = q
-said-after (x ∷ xs) ms s q = inr (said-after xs ms s q)
-
 -- P holds of each atom listed
 abbrev pub EachAtom : (ℕ → Type 0) → List ℕ → Type 0
 EachAtom P [] = Unit {0}

@@ -6,7 +6,7 @@ ghost use lib.Dec.{eqb};
 ghost use lib.ListN.{length};
 ghost use Rattle.faults.specs.Marks.{among};
 ghost use Rattle.aspif.specs.Grammar.{plainHead};
-ghost use Rattle.aspif.specs.Words.{word, behind, after, listAt, literalsAt, saysAt, linesOf, AllBelow, SmallHead, Taped};
+ghost use Rattle.aspif.specs.Words.{word, behind, listAt, literalsAt, saysAt, linesOf, AllBelow, SmallHead, Taped};
 ghost use Rattle.terms.specs.Says.{inHead};
 ghost use Rattle.stable.specs.Meaning.{firstBroken, broken, FoundedBy};
 ghost use Rattle.faults.specs.Marks.{isMarked};

@@ -6,12 +6,12 @@ use mathlib.Core.List.{List, [], _∷_, map}
 use mathlib.Core.Bool.{Bool, true, false}
 use native.Mathlib.Omega.{arith}
 use lib.ListN.{length, length-map}
-use lib.Dec.{eqb, lit<}
+use lib.Dec.{eqb}
 use lib.IntN.{ℤ, pos, negsuc, negℤ}
 use Rattle.faults.specs.Answer.{got, pick}
 use Rattle.aspif.specs.Statements.{Statement, rule, output, numeric, string, compound, element, theory, guarded, comment, Line}
 use Rattle.aspif.specs.Words.{AllBelow, Between, Small, AllSmall}
-use Rattle.diffs.specs.Diff.{Diff, All, NotIn}
+use Rattle.diffs.specs.Diff.{Diff, All}
 use Rattle.diffs.proofs.Names.{pigeon}
 use Rattle.terms.specs.Says.{Term, num, str, comp, Part, defines, collects, states, other, guard, unguarded, partOf, Found, found, nothing, orElse, termIn, term, Bound, plain, negated, Difference, SaysIn, Some, Says}
 use Rattle.terms.specs.Terms.{Stated, differences, Lists, SmallDiff}
@@ -113,9 +113,3 @@ module _ (ls : List Line) (ds : List Stated) (h : differences ls ≡ got ds) (q 
   -- the atoms differ and are 0 to 4,096
   pub listed-few : length ds ≤ 4097
   listed-few = rw (length-map ds (λ (s : Stated). s .atom)) at (pigeon 4097 (map (λ (s : Stated). s .atom) ds) (atoms-differ ls ds h) (atoms-small ds listed-small))
-
-  -- where no difference is of atom 0, which the reader refuses, they are at most 4,096
-  pub listed-fewer : NotIn 0 (map (λ (s : Stated). s .atom) ds) → length ds ≤ 4096
-  listed-fewer z =
-      let k = pigeon 4097 (0 ∷ map (λ (s : Stated). s .atom) ds) (z, atoms-differ ls ds h) (lit< tt, atoms-small ds listed-small) in
-      omega (arith, k, length-map ds (λ (s : Stated). s .atom))

@@ -7,7 +7,7 @@ use mathlib.Core.List.{List, [], _∷_, _++_, map}
 use mathlib.Core.Bool.{Bool, true, false, _&&_, _||_, not}
 use native.Mathlib.Omega.{arith}
 use borrow.Author.Tests.{eq-eqb, ne-eqb, eqb-true, ltb-true, ltb-false}
-use lib.ListN.{length, getD, take, length-append, List·getD-eq-default}
+use lib.ListN.{length, getD, take, List·getD-eq-default}
 use lib.Seq.{take-suc}
 use lib.Dec.{eqb, ltb}
 use lib.IntN.{ℤ}
@@ -28,12 +28,6 @@ use Rattle.terms.proofs.Bounds.{says-small}
 map-append : {A B : Type 0} (f : A → B) (xs ys : List A) → map f (xs ++ ys) ≡ map f xs ++ map f ys
 map-append f [] ys = refl
 map-append {B = B} f (x ∷ xs) ys = ap (λ (l : List B). f x ∷ l) (map-append f xs ys)
-
--- f 0, .., f (n - 1) are n
-pub firsts-length : {A : Type 0} (n : ℕ) (f : ℕ → A) → length (firsts n f) ≡ n
-unfolding firsts
-firsts-length zero f = refl
-firsts-length (suc n) f = length-append (firsts n f) (f n ∷ []) ∙ omega (arith, firsts-length n f)
 
 firsts-take : {A : Type 0} (g : A → ℕ) (xs : List ℕ) (f : ℕ → A) → ((i : ℕ) → g (f i) ≡ getD xs i 0) → (n : ℕ) → n ≤ length xs → map g (firsts n f) ≡ take n xs
 unfolding firsts

@@ -10,7 +10,7 @@ use lib.Dec.{eqb}
 use lib.ListN.{length}
 use Rattle.faults.specs.Answer.{got, refused, pick}
 use Rattle.faults.specs.Marks.{isMarked, marks, markedFrom}
-use Rattle.timetable.specs.Table.{Content, tableOf, lastTerm, latest, lastAtom, inTime, namesOf, within, isTable}
+use Rattle.timetable.specs.Table.{Content, tableOf, lastTerm, latest, lastAtom, inTime, namesOf, within}
 use Rattle.timetable.specs.Times.{timeAmong, timeOf}
 use Rattle.timetable.specs.Given.{timeAt, recordsOf, given, Timely}
 use Rattle.timetable.proofs.Marks.{marked-ascend}
@@ -51,11 +51,6 @@ given-within names times atoms q n m =
       times = marks-in-time 0 names (timeAt times) (λ k e. rw zero-add (q .each k e));
       atoms = marked-ascend atoms 1 lastAtom m (omega arith);
     })
-
--- what is written is a table
-pub written-table : (names times atoms : List ℕ) → Timely names times → length names ≡ 1024 → length atoms ≡ 4097
-    → isTable (tableOf (given names times atoms)) ≡ true
-written-table names times atoms q n m = read-back (given names times atoms) (given-within names times atoms q n m) .is
 
 -- a table is at most 24,592 bytes long
 pub longest : (c : Content) → within c ≡ true → length (tableOf c) ≤ 24592

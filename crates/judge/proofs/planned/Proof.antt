@@ -1,6 +1,6 @@
 -- `judge::planned` meets its contract: the text is read, then its terms; 3 to 6, or on to the candidate. Assumes nothing.
 use borrow.Author.Needs.{needs}
-use mathlib.Core.Path.{sym, ap}
+use mathlib.Core.Path.{sym}
 use native.Mathlib.Omega.{arith}
 use Rattle.judge.specs.Judged.{unreadable}
 use Rattle.terms.proofs.Witness.{new-room}

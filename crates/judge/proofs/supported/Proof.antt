@@ -1,6 +1,5 @@
 -- `judge::supported` meets its contract: the external atoms as facts, then the smallest unfounded atom decides. Assumes nothing.
 use borrow.Author.Needs.{needs}
-use mathlib.Core.Path.{ap}
 use native.Mathlib.Omega.{arith}
 use Rattle.terms.proofs.Witness.{new-marks}
 use Rattle.judge.specs.Judged.{unfounded, founded}

@@ -8,7 +8,6 @@ use lib.ListN.{length}
 use Rattle.fields.proofs.Ahead.{natural-ahead}
 use Rattle.fields.proofs.Naturals.{ten-far}
 use Rattle.fields.proofs.Taping.{wrote, stopped}
-use Rattle.aspif.specs.Grammar.{lines}
 use Rattle.aspif.specs.Words.{words}
 use Rattle.aspif.specs.Values.{taped}
 use Rattle.aspif.proofs.Turns.{turn-none, turn-stop, last-stop, last-goes, line-stop, line-goes, Reached, reach-start, reach-fault, reach-more, end-taped, end-lines, end-walks}
