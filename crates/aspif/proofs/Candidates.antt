@@ -6,7 +6,7 @@ use mathlib.Core.Bool.{Bool, true, false, _&&_}
 use native.Mathlib.Omega.{arith}
 use borrow.Author.Tests.{eq-eqb, ne-eqb, eqb-true, eqb-false, leb-true, leb-false, ltb-true, le-leb, lt-leb}
 use lib.Dec.{eqb, leb, ltb, lit<}
-use lib.ListN.{length, getD, set, length-set}
+use lib.ListN.{length, getD, set, replicate, length-set, length-replicate}
 use lib.Seq.{getD-set-other}
 use Rattle.faults.specs.Answer.{got, refused, pick}
 use Rattle.fields.specs.Reading.{Reading, found, fault, bind}
@@ -16,6 +16,7 @@ use Rattle.fields.proofs.Naturals.{there, natural-within}
 use Rattle.aspif.specs.Grammar.{answer, lastLine}
 use Rattle.aspif.specs.Candidate.{sevenfold, atomAbove, ending, ascending, atoms, candidate, AscendingFrom, atomsOf, Blank}
 use Rattle.faults.proofs.Marks.{marks-none, marks-more}
+use Rattle.faults.proofs.Lists.{zeros}
 
 -- ---- a field
 
@@ -167,6 +168,10 @@ pub record Marking (s x : List ℕ) (low at : ℕ) (whole : Reading (List ℕ)) 
   pub places : length x ≡ 4097
   pub clear : (a : ℕ) → low < a → getD x a 0 ≡ 0
   pub rest : whole ≡ behind (atomsOf x) (ascending (4096 - low) low s at)
+
+-- a bitmap of zeros is blank
+pub blank-zeros : Blank (replicate 4097 0)
+blank-zeros = record { places = length-replicate {A = ℕ} 4097 0; clear = zeros 4097 }
 
 pub marking-start : {s x : List ℕ} {at : ℕ} → Blank x → Marking s x 0 at (ascending 4096 0 s at)
 marking-start {s} {x} {at} b =

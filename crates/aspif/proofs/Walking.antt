@@ -1,11 +1,12 @@
--- Where a line on the tape ends, by its kind. Assumes nothing.
-use Prim.Native.Nat.{ℕ, _+_, _≤_}
+-- Where a line on the tape ends, by its kind; lines that stand within it. Assumes nothing.
+use Prim.Native.Nat.{ℕ, zero, suc, _+_, _-_, _≤_, _<_}
 use mathlib.Core.Path.{_≡_, sym, ap, _∙_}
 use mathlib.Core.List.{List}
+use native.Mathlib.Omega.{arith}
 use native.Mathlib.Nat.{add-zero}
 use borrow.Author.Tests.{ne-eqb}
 use lib.ListN.{length, List·getD-eq-default}
-use Rattle.aspif.specs.Words.{word, behind, after}
+use Rattle.aspif.specs.Words.{word, behind, after, Within}
 
 -- a word past the end is 0
 pub word-out : (t : List ℕ) (p : ℕ) → length t ≤ p → 0 ≡ word t p
@@ -55,3 +56,17 @@ module _ (t : List ℕ) (p k : ℕ) (ek : k ≡ word t (p + 0)) where
   unfolding after
   after-comment a b c d e f g h =
       rw (first-word t p k ek, ne-eqb k 1 a, ne-eqb k 4 b, ne-eqb k 90 c, ne-eqb k 91 d, ne-eqb k 92 e, ne-eqb k 94 f, ne-eqb k 95 g, ne-eqb k 96 h)
+
+-- ---- lines that stand within the tape
+
+-- they begin within it
+pub within-starts : (t : List ℕ) (p n : ℕ) → Within t p n → p ≤ length t
+unfolding Within
+within-starts t p zero w = w
+within-starts t p (suc n) w = w .0
+
+-- behind the first of them the others do
+pub within-next : (t : List ℕ) (p n : ℕ) → 0 < n → Within t p n → Within t (after t p) (n - 1)
+unfolding Within
+within-next t p zero h w = absurd (omega arith)
+within-next t p (suc n) h w = let d : suc n - 1 ≡ n = omega arith in rw d (w .1)

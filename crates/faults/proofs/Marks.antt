@@ -1,8 +1,8 @@
 -- Laws of bitmaps: the marked numbers of a blank one, of one with one more mark, and which numbers are marked. Assumes nothing.
 use Prim.Native.Nat.{ℕ, zero, suc, _+_, _≤_, _<_}
-use mathlib.Core.Path.{_≡_, refl, _∙_}
+use mathlib.Core.Path.{_≡_, refl, sym, _∙_}
 use mathlib.Core.List.{List, [], _∷_, _++_}
-use mathlib.Core.Bool.{Bool, true, false}
+use mathlib.Core.Bool.{Bool, true, false, _||_}
 use native.Mathlib.Omega.{arith}
 use native.Mathlib.Nat.{add-zero}
 use borrow.Author.Tests.{eq-eqb, ne-eqb}
@@ -10,6 +10,7 @@ use lib.Dec.{eqb}
 use lib.ListN.{length, getD, set}
 use Rattle.faults.specs.Answer.{pick}
 use Rattle.faults.specs.Marks.{among, isMarked, marks}
+use Rattle.faults.proofs.Bools.{or-assoc}
 
 none-from : (i : ℕ) (x : List ℕ) → ((a : ℕ) → getD x a 0 ≡ 0) → marks i x ≡ []
 unfolding marks
@@ -38,6 +39,15 @@ pub marks-more : (x : List ℕ) (v : ℕ) → v < length x → ((a : ℕ) → v 
 marks-more x v l h = let z : 0 + v ≡ v = omega arith in more-from 0 x v l h ∙ rw z
 
 -- ---- which numbers are marked
+
+-- the first of a list is among it
+pub first-in : (a : ℕ) (l : List ℕ) → among a (a ∷ l) ≡ true
+first-in a l = rw (eq-eqb a a refl)
+
+-- what is among two lists joined is among one of them
+pub among-append : (a : ℕ) (xs ys : List ℕ) → among a (xs ++ ys) ≡ (among a xs || among a ys)
+among-append a [] ys = refl
+among-append a (x ∷ xs) ys = rw (among-append a xs ys) (sym (or-assoc (eqb a x) (among a xs) (among a ys)))
 
 below-from : (i : ℕ) (x : List ℕ) (a : ℕ) → a < i → among a (marks i x) ≡ false
 unfolding marks

@@ -7,6 +7,7 @@ use native.Mathlib.Nat.{add-zero}
 use native.Mathlib.Numerals.{add-one}
 use lib.ListN.{length, set, length-append}
 use lib.Seq.{sets}
+use Rattle.faults.proofs.Lists.{sets-append}
 use Rattle.fields.specs.Reading.{Reading, found, fault, bind}
 use Rattle.fields.specs.Fields.{byte, natural, nextNatural, item, items, counted}
 use Rattle.fields.specs.Tape.{written, onTape, bare, listed}
@@ -119,12 +120,6 @@ stopped words t o (fault i p) {k} {q} e =
 pub on-fault : {A : Type 0} (words : A → List ℕ) (t : List ℕ) (o k q : ℕ) → fault k q ≡ onTape words t o (fault k q)
 unfolding onTape
 on-fault words t o k q = refl
-
-pub sets-append : (t : List ℕ) (o : ℕ) (xs ys : List ℕ) → sets (sets t o xs) (o + length xs) ys ≡ sets t o (xs ++ ys)
-sets-append t o [] ys = rw add-zero
-sets-append t o (x ∷ xs) ys =
-    let e : o + suc (length xs) ≡ suc o + length xs = omega arith in
-    rw e (sets-append (set t o x) (suc o) xs ys)
 
 -- the words so far: the tape t with the words ws from o on is t′, whose next place is o′
 pub record On (t : List ℕ) (o : ℕ) (ws : List ℕ) (t′ : List ℕ) (o′ : ℕ) : Type 0 where

@@ -1,27 +1,23 @@
 -- Laws of a fixed word: one step at a place of it. Assumes nothing.
 use Prim.Native.Nat.{ℕ, suc, _+_, _≤_, _<_}
-use mathlib.Core.Path.{_≡_, refl}
+use mathlib.Core.Path.{_≡_}
 use mathlib.Core.List.{List}
-use mathlib.Core.Bool.{Bool, true, false, _&&_}
-use native.Mathlib.Omega.{arith}
+use mathlib.Core.Bool.{true, _&&_}
 use native.Mathlib.Numerals.{add-one}
 use lib.ListN.{length, getD, drop, drop-of-length-le}
 use lib.Seq.{drop-cons}
 use lib.Dec.{ltb}
 use borrow.Author.Tests.{ltb-true}
+use Rattle.faults.proofs.Bools.{and-cases}
 use Rattle.fields.specs.Reading.{found, fault}
 use Rattle.fields.specs.Fields.{byte, bytes, allPositive}
-
-both : (t u : Bool) → (t && u) ≡ true → (t ≡ true) × (u ≡ true)
-both true u h = (refl, h)
-both false u h = let z : _≡_ {A = ℕ} 0 1 = (cc) in absurd (omega arith)
 
 module _ (w : List ℕ) (i : ℕ) where
   pub positive-more : i < length w → allPositive (drop i w) ≡ true → (0 < getD w i 0) × (allPositive (drop (i + 1) w) ≡ true)
   unfolding allPositive
   positive-more h e =
       let k : (ltb 0 (getD w i 0) && allPositive (drop (suc i) w)) ≡ true = rw (drop-cons w i 0 h) at e in
-      let p = both (ltb 0 (getD w i 0)) (allPositive (drop (suc i) w)) k in
+      let p = and-cases (ltb 0 (getD w i 0)) (allPositive (drop (suc i) w)) k in
       (ltb-true 0 (getD w i 0) (p .0), rw add-one (p .1))
 
   module _ (s : List ℕ) (at : ℕ) where

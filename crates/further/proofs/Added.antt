@@ -7,6 +7,7 @@ use mathlib.Core.List.{List, [], _∷_}
 use borrow.Author.Tests.{ne-eqb}
 use lib.Dec.{eqb}
 use Rattle.faults.specs.Marks.{among}
+use Rattle.faults.proofs.Bools.{or-else}
 use Rattle.aspif.specs.Statements.{Statement, Line}
 use Rattle.terms.specs.Says.{partOf, heads, headed}
 use Rattle.terms.specs.Terms.{statesIn, taken, external}
@@ -14,7 +15,7 @@ use Rattle.stable.specs.Meaning.{Atoms, Says, broken}
 use Rattle.judge.specs.Plan.{Ready, holds}
 use Rattle.judge.specs.Later.{atoms, Unused, Added, a-number, a-string, a-compound, an-element, an-atom, a-fact, Grown, none, keep, add, Later}
 use Rattle.judge.proofs.Ascent.{of-member}
-use Rattle.further.proofs.Lists.{not-true, not-both, or-false}
+use Rattle.further.proofs.Lists.{not-true, not-both}
 use Rattle.further.proofs.Agree.{Agree}
 
 -- ---- lines with others between
@@ -105,7 +106,7 @@ module _ (q q′ : Ready) (new : List ℕ) (l : Later q q′ new) where
 
   -- both candidates have the same of the atoms that are not new
   pub candidate-same : (a : ℕ) → among a new ≡ false → holds q a ≡ holds q′ a
-  candidate-same a f = sym (l .candidate a ∙ or-false (holds q a) (among a new) f)
+  candidate-same a f = sym (l .candidate a ∙ or-else (holds q a) (among a new) f)
 
   -- and of the atoms of each old line
   pub lines-agree : (s : Statement) → Says (q .lines) s → Agree (holds q) (holds q′) (atoms s)

@@ -5,10 +5,12 @@ use mathlib.Core.Bool.{true, false}
 use mathlib.Core.List.{List, [], _∷_, _++_}
 use lib.Dec.{eqb}
 use Rattle.faults.specs.Marks.{among}
+use Rattle.faults.proofs.Bools.{or-left, or-right, and-cases}
+use Rattle.faults.proofs.Marks.{first-in, among-append}
 use Rattle.aspif.specs.Statements.{Literal, positive, negated, Head, empty, single, choice, Statement, rule, output, numeric, string, compound, element, theory, guarded, comment}
 use Rattle.stable.specs.Meaning.{Atoms, bodyTrue, brokenRule, broken, kept, positives, reductHead}
 use Rattle.judge.specs.Later.{inHead, inLiterals, atoms}
-use Rattle.further.proofs.Lists.{or-left, or-right, and-both, first-in, rest-in, among-joined}
+use Rattle.further.proofs.Lists.{rest-in}
 
 -- X and Y have the same atoms of a list
 abbrev pub Agree : Atoms → Atoms → List ℕ → Type 0
@@ -18,10 +20,10 @@ Agree X Y l = (a : ℕ) → among a l ≡ true → X a ≡ Y a
 
 module _ (X Y : Atoms) where
   agree-left : (l m : List ℕ) → Agree X Y (l ++ m) → Agree X Y l
-  agree-left l m h a e = h a (among-joined a l m ∙ or-left (among a l) (among a m) e)
+  agree-left l m h a e = h a (among-append a l m ∙ or-left (among a l) (among a m) e)
 
   agree-right : (l m : List ℕ) → Agree X Y (l ++ m) → Agree X Y m
-  agree-right l m h a e = h a (among-joined a l m ∙ or-right (among a l) (among a m) e)
+  agree-right l m h a e = h a (among-append a l m ∙ or-right (among a l) (among a m) e)
 
   agree-first : (a : ℕ) (l : List ℕ) → Agree X Y (a ∷ l) → X a ≡ Y a
   agree-first a l h = h a (first-in a l)
@@ -55,7 +57,7 @@ module _ (X Y : Atoms) where
   pub head-same : (h : Head) → Agree X Y (inHead h) → (a : ℕ) → reductHead X h a ≡ true → reductHead Y h a ≡ true
   head-same empty g a e = e
   head-same (single b) g a e = e
-  head-same (choice hs) g a e = let i = and-both (among a hs) (X a) e in rw (i .0, ← g a (i .0)) (i .1)
+  head-same (choice hs) g a e = let i = and-cases (among a hs) (X a) e in rw (i .0, ← g a (i .0)) (i .1)
 
   -- ---- lines
 
@@ -80,7 +82,7 @@ module _ (X Y : Atoms) where
 pub head-in : (X : Atoms) (h : Head) (a : ℕ) → reductHead X h a ≡ true → among a (inHead h) ≡ true
 head-in X empty a e = e
 head-in X (single b) a e = or-left (eqb a b) false e
-head-in X (choice hs) a e = and-both (among a hs) (X a) e .0
+head-in X (choice hs) a e = and-cases (among a hs) (X a) e .0
 
 -- S is a model of what the reduct by X leaves of a rule
 abbrev pub Model : (X S : Atoms) → Head → List Literal → Type 0

@@ -6,13 +6,13 @@ use mathlib.Core.Logic.{⊎-elim}
 use mathlib.Core.List.{List, []}
 use borrow.Author.Tests.{eqb-true, eq-eqb}
 use Rattle.faults.specs.Marks.{among}
+use Rattle.faults.proofs.Bools.{or-left, or-right, or-else}
 use Rattle.aspif.specs.Statements.{Literal, Head, single, Statement, rule}
 use Rattle.terms.specs.Terms.{external}
 use Rattle.stable.specs.Meaning.{Atoms, Says, Closed, Unfounded, Founded, SmallestUnfounded}
 use Rattle.judge.specs.Plan.{Ready, holds}
 use Rattle.judge.specs.Later.{atoms, Added, a-fact, Later}
 use Rattle.judge.proofs.Ascent.{of-member}
-use Rattle.further.proofs.Lists.{or-left, or-right, or-false}
 use Rattle.further.proofs.Agree.{Agree, Model, model-same}
 use Rattle.further.proofs.Added.{says-on, says-back, old-apart, line-apart, candidate-same, lines-agree, old-holds, external-same}
 
@@ -39,7 +39,7 @@ module _ (q q′ : Ready) (new : List ℕ) (l : Later q q′ new) where
   with S a = S a || among a new
 
   with-same : (S : Atoms) (s : Statement) → Says (q .lines) s → Agree S (with S) (atoms s)
-  with-same S s x a e = sym (or-false (S a) (among a new) (line-apart q q′ new l s x a e))
+  with-same S s x a e = sym (or-else (S a) (among a new) (line-apart q q′ new l s x a e))
 
   -- a model of the old reduct, with the new atoms, is one of the new
   closed-on : (S : Atoms) → Closed (holds q) (external (q .lines)) (q .lines) S → Closed (holds q′) (external (q′ .lines)) (q′ .lines) (with S)
@@ -59,7 +59,7 @@ module _ (q q′ : Ready) (new : List ℕ) (l : Later q q′ new) where
   pub still-unfounded : (a : ℕ) → Unfounded (holds q) (external (q .lines)) (q .lines) a → Unfounded (holds q′) (external (q′ .lines)) (q′ .lines) a
   still-unfounded a u = record {
     holds = old-holds q q′ new l a (u .holds);
-    outside = λ least. u .outside (λ S c. sym (or-false (S a) (among a new) (old-apart q q′ new l a (u .holds))) ∙ least (with S) (closed-on S c));
+    outside = λ least. u .outside (λ S c. sym (or-else (S a) (among a new) (old-apart q q′ new l a (u .holds))) ∙ least (with S) (closed-on S c));
   }
 
   -- what is unfounded was: a new atom is a fact, and so founded

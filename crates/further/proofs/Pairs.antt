@@ -6,12 +6,13 @@ use mathlib.Core.Logic.{inl, inr}
 use mathlib.Core.List.{List, [], _∷_, _++_}
 use lib.IntN.{pos}
 use Rattle.faults.specs.Marks.{among}
+use Rattle.faults.proofs.Bools.{and-cases}
+use Rattle.faults.proofs.Marks.{among-append}
 use Rattle.aspif.specs.Statements.{Statement, Line}
 use Rattle.terms.specs.Terms.{taken}
 use Rattle.judge.specs.Plan.{Ready}
 use Rattle.judge.specs.Later.{atoms, terms, elements, Unused, Added, a-number, a-compound, an-element, an-atom, a-fact, Grown, none, keep, add, Later}
 use Rattle.judge.proofs.Texts.{linesP}
-use Rattle.further.proofs.Lists.{and-both, among-joined}
 use Rattle.further.proofs.Texts.{linesWith}
 
 -- ---- unused numbers by a test
@@ -28,7 +29,7 @@ unused-so : (kind : Statement → List ℕ) (ls : List Line) (n : ℕ) → unuse
 unfolding unusedIn
 unused-so kind [] n e = tt
 unused-so kind (l ∷ ls) n e =
-    let h = and-both (not (among n (kind (l .says)))) (unusedIn kind ls n) e in
+    let h = and-cases (not (among n (kind (l .says)))) (unusedIn kind ls n) e in
     (not-in (among n (kind (l .says))) (h .0), unused-so kind ls n (h .1))
 
 -- ---- the relation
@@ -64,5 +65,5 @@ module _ (eight c c′ w n : ℕ) where
     facts = (inr (inl refl), tt);
     unused = (unused-so atoms (linesP 40 eight 117 c) 4 refl, tt);
     outside = (h, tt);
-    candidate = λ a. among-joined a cs (4 ∷ []);
+    candidate = λ a. among-append a cs (4 ∷ []);
   }

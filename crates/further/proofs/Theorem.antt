@@ -15,25 +15,17 @@ use Rattle.terms.specs.Says.{Says, Name}
 use Rattle.terms.specs.Terms.{external}
 use Rattle.stable.proofs.Stability.{stable-answers}
 use Rattle.judge.specs.Plan.{Rooms, Ready, holds, InForce}
-use Rattle.judge.specs.Judged.{acceptance, refusal, Result, refusing, showing}
+use Rattle.judge.specs.Judged.{refusal, Result, refusing, showing}
 use Rattle.judge.specs.Demand2.{StableModel, Timeable, Accepted, ShowsCycle, Otherwise, Demanded}
 use Rattle.judge.specs.Later.{Later}
 use Rattle.judge.specs.Demand3.{timeIn, Further, Demand3}
+use Rattle.judge.proofs.Judgements.{numbers, places, not-accepted}
 use Rattle.judge.proofs.Demand2.{demand-2}
 use Rattle.further.proofs.Broken.{still-whole, still-broken}
 use Rattle.further.proofs.Founding.{still-founded, still-smallest}
 use Rattle.further.proofs.Saying.{still-name, only-held, still-force}
 
 -- ---- from the verdict to what is shown
-
-not-accepted : {n k p : ℕ} → acceptance n ≡ refusal k p → ⊥
-not-accepted e = let z : _≡_ {A = ℕ} 0 1 = (cc) in omega arith
-
-numbers : {k l p m : ℕ} → refusal k p ≡ refusal l m → k ≡ l
-numbers e = cc
-
-places : {k l p m : ℕ} → refusal k p ≡ refusal l m → p ≡ m
-places e = cc
 
 module _ (q : Ready) (b : Rooms) (r : Result) (k p : ℕ) (v : r .verdict ≡ refusal k p) where
   same : (s : Result) → r ≡ s → s .verdict ≡ refusal k p

@@ -5,9 +5,11 @@ use mathlib.Core.Bool.{Bool, true, false, _||_, true≢false}
 use mathlib.Core.List.{List, [], _∷_}
 use mathlib.Core.Logic.{_⊎_, inl, inr, ⊎-elim}
 use native.Mathlib.Omega.{arith}
-use borrow.Author.Tests.{eqb-true, eq-eqb}
+use borrow.Author.Tests.{eqb-true}
 use lib.Dec.{eqb}
 use Rattle.faults.specs.Marks.{among}
+use Rattle.faults.proofs.Bools.{or-right}
+use Rattle.faults.proofs.Marks.{first-in}
 use Rattle.aspif.specs.Statements.{Line}
 use Rattle.diffs.specs.Diff.{All}
 use Rattle.terms.specs.Says.{Name, Names, Ascending}
@@ -25,13 +27,6 @@ pub of-member : (P : ℕ → Type 0) (l : List ℕ) (k : ℕ) → All P l → am
 of-member P [] k h e = absurd (true≢false (sym e))
 of-member P (n ∷ l) k h e = ⊎-elim (λ p. subst P (sym p) (h .0)) (λ p. of-member P l k (h .1) p) (member k n l e)
 
-here : (n : ℕ) (ns : List ℕ) → among n (n ∷ ns) ≡ true
-here n ns = rw (eq-eqb n n refl)
-
-there : (s t : Bool) → t ≡ true → (s || t) ≡ true
-there true t e = refl
-there false t e = e
-
 module _ (n m : ℕ) (ns ms : List ℕ) (h : All (λ k. n < k) ns) where
   heads-same : All (λ k. m < k) ms → among n (m ∷ ms) ≡ true → among m (n ∷ ns) ≡ true → n ≡ m
   heads-same i e f =
@@ -46,13 +41,13 @@ module _ (n m : ℕ) (ns ms : List ℕ) (h : All (λ k. n < k) ns) where
 pub ascending-same : (ns ms : List ℕ) → Ascending ns → Ascending ms
     → ((k : ℕ) → among k ns ≡ true → among k ms ≡ true) → ((k : ℕ) → among k ms ≡ true → among k ns ≡ true) → ns ≡ ms
 ascending-same [] [] a b f g = refl
-ascending-same [] (m ∷ ms) a b f g = absurd (true≢false (sym (g m (here m ms))))
-ascending-same (n ∷ ns) [] a b f g = absurd (true≢false (sym (f n (here n ns))))
+ascending-same [] (m ∷ ms) a b f g = absurd (true≢false (sym (g m (first-in m ms))))
+ascending-same (n ∷ ns) [] a b f g = absurd (true≢false (sym (f n (first-in n ns))))
 ascending-same (n ∷ ns) (m ∷ ms) a b f g =
-    let p : n ≡ m = heads-same n m ns ms (a .0) (b .0) (f n (here n ns)) (g m (here m ms)) in
+    let p : n ≡ m = heads-same n m ns ms (a .0) (b .0) (f n (first-in n ns)) (g m (first-in m ms)) in
     let t : ns ≡ ms = ascending-same ns ms (a .1) (b .1)
-    (λ k e. tail-in n m ns ms (a .0) p k e (f k (there (eqb k n) (among k ns) e)))
-    (λ k e. tail-in m n ms ns (b .0) (sym p) k e (g k (there (eqb k m) (among k ms) e))) in
+    (λ k e. tail-in n m ns ms (a .0) p k e (f k (or-right (eqb k n) (among k ns) e)))
+    (λ k e. tail-in m n ms ns (b .0) (sym p) k e (g k (or-right (eqb k m) (among k ms) e))) in
     ap (λ (k : ℕ). k ∷ ns) p ∙ ap (λ (l : List ℕ). m ∷ l) t
 
 -- the names of a text are one list

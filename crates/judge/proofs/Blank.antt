@@ -1,21 +1,15 @@
 -- Rooms of zeros: what each is the start of, and their lengths after a call.
-use Prim.Native.Nat.{ℕ, zero, suc, _≤_}
-use mathlib.Core.Path.{_≡_, refl, sym, _∙_}
+use Prim.Native.Nat.{ℕ, _≤_}
+use mathlib.Core.Path.{_≡_, sym, _∙_}
 use mathlib.Core.List.{List}
 use native.Mathlib.Omega.{arith}
 use lib.IntN.{ℤ, pos}
-use lib.ListN.{length, getD, take, replicate, length-replicate}
+use lib.ListN.{length, take, replicate, length-replicate}
 use lib.Seq.{length-take-le}
-use Rattle.aspif.specs.Candidate.{Blank}
+use Rattle.faults.proofs.Lists.{zeros}
 use Rattle.diffs.specs.Answer.{Given}
 use Rattle.terms.specs.Values.{Roomy}
 use Rattle.judge.specs.Stages.{Places, Labelled}
-
--- zeros, and 0 past their end
-zeros : (n i : ℕ) → _≡_ {A = ℕ} (getD (replicate n 0) i 0) 0
-zeros zero i = refl
-zeros (suc n) zero = refl
-zeros (suc n) (suc i) = zeros n i
 
 -- four rooms of zeros have their places
 pub blank-places : Places (replicate 4097 0) (replicate 4097 0) (replicate 4097 0) (replicate 4097 (pos 0))
@@ -46,10 +40,6 @@ part-long z m n l e f g = sym (length-take-le n l (omega (arith, length-replicat
 pub labelled-given : {labels xs ys cycle : List ℕ} {ks : List ℤ} → Labelled labels xs ys ks → 1024 ≤ length cycle → Given xs ys ks labels (replicate 1024 0) cycle
 labelled-given w h =
     record { slices = w .slices; labels-length = w .labels-length; times = length-replicate {A = ℕ} 1024 0; zeros = zeros 1024; places = h }
-
--- a bitmap of zeros holds no atom
-pub blank-atoms : Blank (replicate 4097 0)
-blank-atoms = record { places = length-replicate {A = ℕ} 4097 0; clear = zeros 4097 }
 
 -- the rooms for differences keep their places through a call
 pub kept-room : {atoms xs ys : List ℕ} {ks : List ℤ} → length atoms ≡ length (replicate {A = ℕ} 4097 0) → length xs ≡ length (replicate {A = ℕ} 4097 0)

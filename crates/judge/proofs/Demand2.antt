@@ -15,9 +15,10 @@ use Rattle.stable.proofs.Stability.{stable-answers}
 use Rattle.timetable.specs.Table.{tableOf}
 use Rattle.timetable.specs.Times.{timeOf}
 use Rattle.judge.specs.Plan.{Rooms, Ready, holds, readable, InForce}
-use Rattle.judge.specs.Judged.{acceptance, refusal, Result, refusing, accepting, cyclic, timed, unfounded, founded, Weighed, broken, whole as sound, Judges, unreadable, ready}
+use Rattle.judge.specs.Judged.{acceptance, Result, refusing, accepting, cyclic, timed, unfounded, founded, Weighed, broken, whole as sound, Judges, unreadable, ready}
 use Rattle.judge.specs.Demand2.{StableModel, Timeable, NoneBroken, BrokenAt, NoneUnfounded, UnfoundedAt, Accepted, Timetable, ShowsCycle, Otherwise, Demand2}
 use Rattle.judge.proofs.Ascent.{of-member}
+use Rattle.judge.proofs.Judgements.{verdicts, numbers, places, lengths, not-accepted}
 use Rattle.judge.proofs.Unique.{no-times, smallest-unique}
 use Rattle.judge.proofs.Tables.{content, table-got, reads-back}
 
@@ -57,21 +58,6 @@ module _ (text cand : List ℕ) (b : Rooms) (q : Ready) (r : Result) (e : readab
 
 -- ---- results tell the endings apart
 
-verdicts : {r s : Result} → r ≡ s → r .verdict ≡ s .verdict
-verdicts e = ap (λ (x : Result). x .verdict) e
-
-numbers : {k l p m : ℕ} → refusal k p ≡ refusal l m → k ≡ l
-numbers e = cc
-
-places : {k l p m : ℕ} → refusal k p ≡ refusal l m → p ≡ m
-places e = cc
-
-never : {n k p : ℕ} → acceptance n ≡ refusal k p → ⊥
-never e = let z : _≡_ {A = ℕ} 0 1 = (cc) in omega arith
-
-lengths : {n m : ℕ} → acceptance n ≡ acceptance m → n ≡ m
-lengths e = cc
-
 module _ (q : Ready) (b : Rooms) (r : Result) where
   not-both : NoneBroken q → (p : ℕ) → BrokenAt q p → ⊥
   not-both f p g = let z : _≡_ {A = ℕ} 0 1 = (cc) in omega arith
@@ -87,9 +73,9 @@ module _ (q : Ready) (b : Rooms) (r : Result) where
   stable-of f g = stable-answers (holds q) (external (q .lines)) (q .lines) .1 (f, g)
 
   to : Ending q b r → Accepted r → StableModel q × Timeable q
-  to (at-eight p f g) a = absurd (never (sym (a .is) ∙ verdicts g))
-  to (at-nine f c g h) a = absurd (never (sym (a .is) ∙ verdicts h))
-  to (at-ten f g s) a = absurd (never (sym (a .is) ∙ verdicts (s .is)))
+  to (at-eight p f g) a = absurd (not-accepted (sym (a .is) ∙ verdicts g))
+  to (at-nine f c g h) a = absurd (not-accepted (sym (a .is) ∙ verdicts h))
+  to (at-ten f g s) a = absurd (not-accepted (sym (a .is) ∙ verdicts (s .is)))
   to (at-end f g t) a = (stable-of f g, record { times = whole (t .times); keep = t .earliest .keeps })
 
   from : Ending q b r → StableModel q × Timeable q → Accepted r
@@ -113,7 +99,7 @@ module _ (q : Ready) (b : Rooms) (r : Result) where
       to-eight (at-eight o f g) h = let z : o ≡ p = places (verdicts (sym g ∙ h)) in rw z at f
       to-eight (at-nine f c g i) h = absurd (omega (arith, numbers (verdicts (sym i ∙ h))))
       to-eight (at-ten f g s) h = absurd (omega (arith, numbers (verdicts (sym (s .is) ∙ h))))
-      to-eight (at-end f g t) h = absurd (never (verdicts (sym (t .is) ∙ h)))
+      to-eight (at-end f g t) h = absurd (not-accepted (verdicts (sym (t .is) ∙ h)))
 
       from-eight : Ending q b r → BrokenAt q p → r ≡ refusing b 8 p
       from-eight (at-eight o f g) h = let z : o ≡ p = (cc) in rw z at g
@@ -129,7 +115,7 @@ module _ (q : Ready) (b : Rooms) (r : Result) where
       to-nine (at-eight o f g) h = absurd (omega (arith, numbers (verdicts (sym g ∙ h))))
       to-nine (at-nine f c g i) h = let z : c ≡ a = places (verdicts (sym i ∙ h)) in (f, rw z at g)
       to-nine (at-ten f g s) h = absurd (omega (arith, numbers (verdicts (sym (s .is) ∙ h))))
-      to-nine (at-end f g t) h = absurd (never (verdicts (sym (t .is) ∙ h)))
+      to-nine (at-end f g t) h = absurd (not-accepted (verdicts (sym (t .is) ∙ h)))
 
       from-nine : Ending q b r → NoneBroken q × UnfoundedAt q a → r ≡ refusing b 9 a
       from-nine (at-eight o f g) h = absurd (not-both (h .0) o f)
@@ -145,7 +131,7 @@ module _ (q : Ready) (b : Rooms) (r : Result) where
       to-ten (at-eight o f g) s = absurd (omega (arith, numbers (verdicts (sym g ∙ s .is))))
       to-ten (at-nine f c g i) s = absurd (omega (arith, numbers (verdicts (sym i ∙ s .is))))
       to-ten (at-ten f g c) s = (f, g, λ t. no-times q (s .list) (s .negative) (t .times) (t .keep))
-      to-ten (at-end f g t) s = absurd (never (verdicts (sym (t .is) ∙ s .is)))
+      to-ten (at-end f g t) s = absurd (not-accepted (verdicts (sym (t .is) ∙ s .is)))
 
       from-ten : Ending q b r → NoneBroken q × NoneUnfounded q × (Timeable q → ⊥) → ShowsCycle q b r
       from-ten (at-eight o f g) h = absurd (not-both (h .0) o f)
@@ -183,9 +169,9 @@ module _ (text cand : List ℕ) (b : Rooms) (q : Ready) (r : Result) (e : readab
     }
 
   timetable : Ending q b r → Timetable q b r n
-  timetable (at-eight p f g) = absurd (never (sym v ∙ verdicts g))
-  timetable (at-nine f c g h) = absurd (never (sym v ∙ verdicts h))
-  timetable (at-ten f g s) = absurd (never (sym v ∙ verdicts (s .is)))
+  timetable (at-eight p f g) = absurd (not-accepted (sym v ∙ verdicts g))
+  timetable (at-nine f c g h) = absurd (not-accepted (sym v ∙ verdicts h))
+  timetable (at-ten f g s) = absurd (not-accepted (sym v ∙ verdicts (s .is)))
   timetable (at-end f g t) = timetable-of t
 
 -- demand 2

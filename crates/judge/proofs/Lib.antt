@@ -6,6 +6,7 @@ pub mod Unique
 pub mod Readable
 pub mod Small
 pub mod Tables
+pub mod Judgements
 pub mod Demand1
 pub mod Places
 pub mod Demand2

@@ -10,7 +10,7 @@ use Rattle.faults.specs.Marks.{among}
 use Rattle.aspif.specs.Statements.{Head, empty, single, choice, Statement, rule, output, numeric, string, compound, element, theory, guarded, comment, Line}
 use Rattle.diffs.specs.Diff.{All}
 use Rattle.stable.specs.Meaning.{Atoms, Says, bodyTrue, kept, positives, reductHead, Closed, Least, Founded, SmallestUnfounded}
-use Rattle.timetable.proofs.Bounds.{and-left, and-right}
+use Rattle.faults.proofs.Bools.{and-cases}
 use Rattle.judge.proofs.Ascent.{member, of-member}
 
 -- ---- the test
@@ -52,19 +52,19 @@ module _ (X S : Atoms) where
   carried [] h a e x = absurd (true≢false (sym e))
   carried (c ∷ es) h a e x =
       ⊎-elim
-      (λ p. ap S p ∙ then (X c) (S c) (and-left (not (X c) || S c) (carries X S es) h) (ap X (sym p) ∙ x))
-      (λ p. carried es (and-right (not (X c) || S c) (carries X S es) h) a p x)
+      (λ p. ap S p ∙ then (X c) (S c) (and-cases (not (X c) || S c) (carries X S es) h .0) (ap X (sym p) ∙ x))
+      (λ p. carried es (and-cases (not (X c) || S c) (carries X S es) h .1) a p x)
       (member a c es e)
 
   head-carried : (h : Head) → headCarries X S h ≡ true → (a : ℕ) → reductHead X h a ≡ true → S a ≡ true
   head-carried empty e a r = absurd (true≢false (sym r))
   head-carried (single c) e a r = ap S (eqb-true a c r) ∙ e
-  head-carried (choice hs) e a r = carried hs e a (and-left (among a hs) (X a) r) (and-right (among a hs) (X a) r)
+  head-carried (choice hs) e a r = carried hs e a (and-cases (among a hs) (X a) r .0) (and-cases (among a hs) (X a) r .1)
 
   said-carried : (ls : List Line) → allCarry X S ls ≡ true → (s : Statement) → Says ls s → ruleCarries X S s ≡ true
   said-carried [] h s n = absurd n
-  said-carried (l ∷ ls) h s (inl e) = subst (λ (x : Statement). ruleCarries X S x ≡ true) e (and-left (ruleCarries X S (l .says)) (allCarry X S ls) h)
-  said-carried (l ∷ ls) h s (inr n) = said-carried ls (and-right (ruleCarries X S (l .says)) (allCarry X S ls) h) s n
+  said-carried (l ∷ ls) h s (inl e) = subst (λ (x : Statement). ruleCarries X S x ≡ true) e (and-cases (ruleCarries X S (l .says)) (allCarry X S ls) h .0)
+  said-carried (l ∷ ls) h s (inr n) = said-carried ls (and-cases (ruleCarries X S (l .says)) (allCarry X S ls) h .1) s n
 
 -- S is a model of the reduct by a candidate, if the test holds of each rule and of each external atom
 pub model : (cs : List ℕ) (ext : Atoms) (ls : List Line) (S : Atoms) → carries ext S cs ≡ true → allCarry (λ a. among a cs) S ls ≡ true → Closed (λ a. among a cs) ext ls S

@@ -1,6 +1,6 @@
 -- What is printed of a judged result fits 65,536 bytes: a number has at most 20 digits, and a timetable at most 1,024 names. Assumes nothing.
 use Prim.Native.Nat.{ℕ, zero, suc, _+_, _*_, _/_, _%_, _≤_}
-use mathlib.Core.Path.{_≡_, refl, ap, _∙_}
+use mathlib.Core.Path.{_≡_, _∙_}
 use mathlib.Core.Bool.{Bool, true, false}
 use mathlib.Core.List.{List, [], _∷_, _++_}
 use native.Mathlib.Omega.{arith}
@@ -11,10 +11,11 @@ use lib.ListN.{length, take, drop, replicate, length-append, length-take}
 use Rattle.faults.specs.Answer.{got, pick}
 use Rattle.timetable.specs.Table.{Record, Content, tableOf, nameCount, atomCount, recordsAt, within}
 use Rattle.timetable.proofs.Bounds.{names-few}
-use Rattle.timetable.proofs.Content.{front-back}
+use Rattle.timetable.proofs.Content.{records-length, front-back}
 use Rattle.timetable.proofs.Writing.{length-table}
 use Rattle.judge.specs.Plan.{Rooms}
 use Rattle.judge.specs.Judged.{refusal, Result, accepting, Judged, cyclic, timed, unfounded, founded, broken, whole, unreadable, ready}
+use Rattle.judge.proofs.Judgements.{verdicts}
 use Rattle.judge.proofs.Tables.{content, content-within, table-got}
 use Rattle.report.specs.Report.{digitsTo, decimal, next, two, nexts, listLine, recordLine, recordLines, accepted, refused, acceptedLines, refusedLines, lines, Reported}
 use Rattle.report.specs.Steps.{Put, Fits, Reportable}
@@ -49,11 +50,6 @@ records-few [] = omega arith
 records-few (r ∷ rs) =
     omega (arith, digits-few 20 (r .name), digits-few 20 (r .time), records-few rs, length-append (recordLine r) (recordLines rs), length-append (decimal (r .name) ++ next (r .time)) (10 ∷ []), length-append (decimal (r .name)) (next (r .time)))
 
-records-counted : (s : List ℕ) (k p : ℕ) → length (recordsAt s k p) ≡ k
-unfolding recordsAt
-records-counted s zero p = refl
-records-counted s (suc k) p = ap suc (records-counted s k (p + 8))
-
 length-three : (xs ys zs : List ℕ) → length (xs ++ ys ++ zs) ≡ length xs + length ys + length zs
 length-three xs ys zs = omega (arith, length-append (xs ++ ys) zs, length-append xs ys)
 
@@ -61,7 +57,7 @@ accepted-few : (room : List ℕ) → nameCount room ≤ 1024 → length (accepte
 unfolding acceptedLines
 accepted-few room h =
     let rs = recordsAt room (nameCount room) 16 in
-    omega (arith, h, two-few (nameCount room) (atomCount room), records-few rs, records-counted room (nameCount room) 16, length-three accepted (two (nameCount room) (atomCount room)) (recordLines rs))
+    omega (arith, h, two-few (nameCount room) (atomCount room), records-few rs, records-length room (nameCount room) 16, length-three accepted (two (nameCount room) (atomCount room)) (recordLines rs))
 
 second-few : (t : Bool) (p : ℕ) (cycle : List ℕ) → length (pick t (listLine (take p cycle)) []) ≤ 1 + 21 * length cycle
 second-few true p cycle = omega (arith, list-few (take p cycle), length-take p cycle)
@@ -95,10 +91,10 @@ judged-fits text cand b r out j h n = go j
         rw e (names-within c w rest, record { fits = omega (arith, n, accepted-few (tableOf c ++ rest) (omega (arith, front-back c w rest .names, names-few c w))) })
 
     go : Judged text cand b r → Reportable (r .verdict) (r .rooms .room) × Fits (lines (r .verdict) (r .rooms)) out 0
-    go (unreadable k p e f) = of-refusal k p (ap (λ (s : Result). s .verdict) f)
-    go (ready q e (broken p f g)) = of-refusal 8 p (ap (λ (s : Result). s .verdict) g)
-    go (ready q e (whole f (unfounded a g i))) = of-refusal 9 a (ap (λ (s : Result). s .verdict) i)
-    go (ready q e (whole f (founded g (cyclic cs i l)))) = of-refusal 10 (length cs) (ap (λ (s : Result). s .verdict) l)
+    go (unreadable k p e f) = of-refusal k p (verdicts f)
+    go (ready q e (broken p f g)) = of-refusal 8 p (verdicts g)
+    go (ready q e (whole f (unfounded a g i))) = of-refusal 9 a (verdicts i)
+    go (ready q e (whole f (founded g (cyclic cs i l)))) = of-refusal 10 (length cs) (verdicts l)
     go (ready q e (whole f (founded g (timed u i ns m l)))) = of-table (content ns u (q .atoms)) (content-within text cand b q e u i ns m) (rw (table-got text cand b q e u i ns m) at l)
 
 -- written from the first place on, it stands before what was there

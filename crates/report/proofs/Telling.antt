@@ -1,8 +1,7 @@
 -- What is printed tells what was found: names with their earliest times, or the atoms of a negative cycle. Assumes nothing.
 use Prim.Native.Nat.{ℕ}
-use mathlib.Core.Path.{_≡_, sym, ap, _∙_}
+use mathlib.Core.Path.{_≡_, sym, _∙_}
 use mathlib.Core.List.{List, _++_}
-use native.Mathlib.Omega.{arith}
 use lib.ListN.{length, drop, length-map}
 use lib.Seq.{take-append-seam}
 use Rattle.faults.specs.Answer.{got}
@@ -10,8 +9,9 @@ use Rattle.timetable.specs.Given.{recordsOf}
 use Rattle.timetable.specs.Table.{tableOf}
 use Rattle.timetable.proofs.Content.{front-back}
 use Rattle.judge.specs.Plan.{Rooms, Ready, readable}
-use Rattle.judge.specs.Judged.{acceptance, refusal, Result, Judged, cyclic, timed, unfounded, founded, broken, whole, unreadable, ready}
+use Rattle.judge.specs.Judged.{acceptance, Result, Judged, cyclic, timed, unfounded, founded, broken, whole, unreadable, ready}
 use Rattle.judge.specs.Demand2.{ShowsCycle}
+use Rattle.judge.proofs.Judgements.{verdicts, not-accepted}
 use Rattle.judge.proofs.Tables.{content, content-within, table-got}
 use Rattle.report.specs.Report.{two, listLine, refused, acceptedLines, refusedLines, lines}
 use Rattle.report.specs.Told.{Times, Tells}
@@ -26,18 +26,14 @@ cycle-lines : (q : Ready) (b : Rooms) (r : Result) (c : ShowsCycle q b r) → li
 unfolding refusedLines
 cycle-lines q b r c = rw (c .is, take-append-seam (c .list) (drop (length (c .list)) (b .cycle)))
 
--- a refusal is no acceptance
-never : {k p n : ℕ} {A : Type 0} → refusal k p ≡ acceptance n → A
-never e = let z : _≡_ {A = ℕ} 0 1 = (cc) in absurd (omega arith)
-
 module _ (text cand : List ℕ) (b : Rooms) (r : Result) where
   -- the lines of an acceptance
   times : Judged text cand b r → (n : ℕ) → r .verdict ≡ acceptance n → (q : Ready) × (readable text cand b ≡ got q) × Times q (lines (r .verdict) (r .rooms))
   unfolding acceptedLines
-  times (unreadable k p e f) n v = never (sym (ap (λ (s : Result). s .verdict) f) ∙ v)
-  times (ready q e (broken p f g)) n v = never (sym (ap (λ (s : Result). s .verdict) g) ∙ v)
-  times (ready q e (whole f (unfounded a g h))) n v = never (sym (ap (λ (s : Result). s .verdict) h) ∙ v)
-  times (ready q e (whole f (founded g (cyclic cs h i)))) n v = never (sym (ap (λ (s : Result). s .verdict) i) ∙ v)
+  times (unreadable k p e f) n v = absurd (not-accepted (sym v ∙ verdicts f))
+  times (ready q e (broken p f g)) n v = absurd (not-accepted (sym v ∙ verdicts g))
+  times (ready q e (whole f (unfounded a g h))) n v = absurd (not-accepted (sym v ∙ verdicts h))
+  times (ready q e (whole f (founded g (cyclic cs h i)))) n v = absurd (not-accepted (sym v ∙ verdicts i))
   times (ready q e (whole f (founded g (timed u h ns all j)))) n v =
       let c = content ns u (q .atoms) in
       let o = front-back c (content-within text cand b q e u h ns all) (drop (length (tableOf c)) (b .room)) in (

@@ -10,7 +10,7 @@ use lib.ListN.{length, getD, length-set}
 use Rattle.faults.specs.Marks.{among, isMarked}
 use Rattle.aspif.specs.Words.{word, wordsFrom, listAt, AllBelow}
 use Rattle.stable.specs.Steps.{Grown, Marked, Added}
-use Rattle.stable.proofs.Bools.{or-none}
+use Rattle.faults.proofs.Bools.{or-none}
 use Rattle.stable.proofs.Lists.{words-cons}
 use Rattle.stable.proofs.Marks.{marked-le, grown-refl, grown-trans, member-set}
 

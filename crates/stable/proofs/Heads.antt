@@ -15,7 +15,7 @@ use Rattle.stable.specs.Meaning.{Atoms, reductHead}
 use Rattle.terms.specs.Says.{inHead}
 use Rattle.stable.specs.Index.{headAt, bodyAt, LiteralsAt, RuleAt}
 use Rattle.stable.specs.Steps.{holds, fires, Marked, Added}
-use Rattle.stable.proofs.Bools.{or-none, or-swap}
+use Rattle.faults.proofs.Bools.{or-none, or-swap}
 use Rattle.stable.proofs.Lists.{words-cons}
 use Rattle.stable.proofs.Marks.{grown-refl, member-set}
 

@@ -1,5 +1,4 @@
 -- What the functions' proofs cite, then the laws of the meaning and the cases of document 01.
-pub mod Bools
 pub mod Reduct
 pub mod Lists
 pub mod Literals

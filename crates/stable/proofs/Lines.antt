@@ -1,5 +1,5 @@
 -- The line at a place of the tape: when it is a rule, where the next line stands, and what is known of the lines ahead. Assumes nothing.
-use Prim.Native.Nat.{ℕ, zero, suc, _+_, _-_, _≤_, _<_}
+use Prim.Native.Nat.{ℕ, suc, _+_, _-_, _≤_, _<_}
 use mathlib.Core.Bool.{Bool, true, false, true≢false}
 use mathlib.Core.List.{List}
 use mathlib.Core.Path.{_≡_, refl}
@@ -9,9 +9,10 @@ use lib.Dec.{eqb}
 use lib.ListN.{length}
 use Rattle.aspif.specs.Statements.{Statement, rule, output, numeric, string, compound, element, theory, guarded, comment}
 use Rattle.aspif.specs.Words.{word, behind, after, saysAt, linesFrom, Within, Small, Taped}
+use Rattle.aspif.proofs.Walking.{within-starts}
 use Rattle.stable.specs.Meaning.{Atoms, broken}
 use Rattle.stable.specs.Index.{headAt, bodyAt, RuleAt, Ahead}
-use Rattle.stable.proofs.Bools.{picked}
+use Rattle.faults.proofs.Bools.{picked}
 
 -- a statement is a rule
 abbrev pub isRule : Statement → Bool
@@ -93,11 +94,6 @@ module _ (t : List ℕ) (p : ℕ) where
       three-two : p < behind t (behind t (p + 3))
       three-two = omega arith
 
-pub within-le : (t : List ℕ) (p n : ℕ) → Within t p n → p ≤ length t
-unfolding Within
-within-le t p zero w = w
-within-le t p (suc n) w = w .0
-
 -- what is known of the first of n + 1 lines
 pub record Next (t : List ℕ) (p n : ℕ) : Type 0 where
   pub inside : after t p ≤ length t
@@ -108,7 +104,7 @@ pub record Next (t : List ℕ) (p n : ℕ) : Type 0 where
 pub next : {t : List ℕ} {p n : ℕ} → Ahead t p (suc n) → Next t p n
 unfolding Within linesFrom
 next {t} {p} {n} a = record {
-  inside = within-le t (after t p) n (a .within .1);
+  inside = within-starts t (after t p) n (a .within .1);
   place = a .small .0 .0;
   small = a .small .0 .1;
   rest = record { within = a .within .1; small = a .small .1 };
@@ -133,4 +129,4 @@ pub ahead-of : {t : List ℕ} {n : ℕ} → Taped t n → Ahead t 0 n
 ahead-of k = record { within = k .within; small = k .small }
 
 pub below-end : {t : List ℕ} {p n : ℕ} → Ahead t p n → p ≤ length t
-below-end {t} {p} {n} a = within-le t p n (a .within)
+below-end {t} {p} {n} a = within-starts t p n (a .within)

@@ -12,7 +12,7 @@ use Rattle.stable.specs.Meaning.{Atoms, reductHead, kept, positives, bod
 use Rattle.faults.specs.Marks.{isMarked}
 use Rattle.stable.specs.Index.{headAt, bodyAt, RuleAt}
 use Rattle.stable.specs.Steps.{holds, marked, Grown, Added, fires, ruleFires, ClosedBy, Readable, Round, Both, LeastBy}
-use Rattle.stable.proofs.Bools.{or-left, or-right, or-cases, and-cases, and-both}
+use Rattle.faults.proofs.Bools.{or-left, or-right, or-cases, and-cases, and-both}
 use Rattle.stable.proofs.Marks.{grown-refl, grown-trans, marked-le}
 use Rattle.stable.proofs.Reduct.{holds-reduct, holds-mono}
 

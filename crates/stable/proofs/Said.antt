@@ -9,7 +9,8 @@ use lib.Dec.{eqb}
 use Rattle.aspif.specs.Statements.{Literal, Head, Statement, rule, output, numeric, string, compound, element, theory, guarded, comment, Line}
 use Rattle.faults.specs.Marks.{among}
 use Rattle.stable.specs.Meaning.{Says}
-use Rattle.stable.proofs.Bools.{or-cases}
+use Rattle.faults.proofs.Bools.{or-cases}
+use Rattle.diffs.specs.Diff.{All}
 
 -- P holds of a rule's head and body; of nothing else anything is asked
 abbrev pub OfRule : (Head → List Literal → Type 0) → Statement → Type 0
@@ -45,12 +46,7 @@ said-more [] ms s n = absurd n
 said-more (x ∷ xs) ms s (inl q) = inl q
 said-more (x ∷ xs) ms s (inr q) = inr (said-more xs ms s q)
 
--- P holds of each atom listed
-abbrev pub EachAtom : (ℕ → Type 0) → List ℕ → Type 0
-EachAtom P [] = Unit {0}
-EachAtom P (a ∷ bs) = P a × EachAtom P bs
-
--- so of each that is among them
-pub each-atom : (P : ℕ → Type 0) (bs : List ℕ) → EachAtom P bs → (a : ℕ) → among a bs ≡ true → P a
+-- what holds of all listed holds of each that is among them
+pub each-atom : (P : ℕ → Type 0) (bs : List ℕ) → All P bs → (a : ℕ) → among a bs ≡ true → P a
 each-atom P [] e a n = absurd (true≢false (sym n))
 each-atom P (b ∷ bs) e a m = ⊎-elim (λ q. subst P (sym (eqb-true a b q)) (e .0)) (each-atom P bs (e .1) a) (or-cases (eqb a b) (among a bs) m)

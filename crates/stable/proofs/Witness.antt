@@ -15,7 +15,7 @@ use Rattle.aspif.specs.Words.{word, wordsFrom, after, saysAt, allWords, linesFr
 use Rattle.stable.specs.Meaning.{Atoms, unbroken, brokenAt, firstBroken, kept, positives, bodyTrue, reductHead, Closed, Least, Unfounded, SmallestUnfounded, Stable}
 use Rattle.terms.specs.Says.{headed}
 use Rattle.terms.specs.Terms.{taken, external}
-use Rattle.stable.proofs.Bools.{and-cases}
+use Rattle.faults.proofs.Bools.{and-cases}
 use Rattle.stable.proofs.Said.{OfRule, each-said, each-atom}
 use Rattle.stable.proofs.Stability.{stable-answers}
 

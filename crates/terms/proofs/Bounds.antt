@@ -4,7 +4,6 @@ use mathlib.Core.Path.{_≡_, refl}
 use mathlib.Core.Logic.{inl, inr, ⊎-elim}
 use mathlib.Core.List.{List, [], _∷_, map}
 use mathlib.Core.Bool.{Bool, true, false}
-use native.Mathlib.Omega.{arith}
 use lib.ListN.{length, length-map}
 use lib.Dec.{eqb}
 use lib.IntN.{ℤ, pos, negsuc, negℤ}
@@ -15,6 +14,7 @@ use Rattle.diffs.specs.Diff.{Diff, All}
 use Rattle.diffs.proofs.Names.{pigeon}
 use Rattle.terms.specs.Says.{Term, num, str, comp, Part, defines, collects, states, other, guard, unguarded, partOf, Found, found, nothing, orElse, termIn, term, Bound, plain, negated, Difference, SaysIn, Some, Says}
 use Rattle.terms.specs.Terms.{Stated, differences, Lists, SmallDiff}
+use Rattle.terms.proofs.Differing.{never}
 use Rattle.terms.proofs.Stating.{listed-says, atoms-differ}
 
 -- ---- what terms hold
@@ -40,9 +40,6 @@ small-part (element v us b) q = tt
 small-part (theory a p vs) q = q .0
 small-part (guarded a p vs g u) q = q .0
 small-part (comment bs) q = tt
-
-never : {A : Type 0} {a : A} → nothing ≡ found a → ⊥
-never {A} {a} e = let z : _≡_ {A = ℕ} 0 1 = (cc) in omega arith
 
 small-found : {x y : Term} → found x ≡ found y → SmallTerm x → SmallTerm y
 small-found {x} {y} e q = let h : x ≡ y = cc e in rw (← h) q

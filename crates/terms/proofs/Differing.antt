@@ -16,7 +16,7 @@ use Rattle.terms.proofs.Known.{term-append, element-append}
 
 -- ---- what a test or a search that succeeds says
 
-never : {A : Type 0} {a : A} → nothing ≡ found a → ⊥
+pub never : {A : Type 0} {a : A} → nothing ≡ found a → ⊥
 never {A} {a} e = let z : _≡_ {A = ℕ} 0 1 = (cc) in omega arith
 
 not-true : false ≡ true → ⊥

@@ -6,6 +6,7 @@ use mathlib.Core.Bool.{Bool, true, false, _||_}
 use borrow.Author.Tests.{eqb-true}
 use lib.Dec.{eqb}
 use Rattle.faults.specs.Answer.{pick, refused}
+use Rattle.faults.proofs.Bools.{or-assoc, or-none, or-true, or-neither}
 use Rattle.aspif.specs.Statements.{Line}
 use Rattle.terms.specs.Says.{Term, Element, Part, defines, collects, states, other, partOf, Found, found, nothing, orElse, termIn, term, elementIn, elementAt}
 use Rattle.terms.specs.Terms.{known, statesIn, taken, defined, faulty, statedBy, more, differencesFrom, differences}
@@ -28,10 +29,6 @@ unfolding elementAt
 element-append [] ys v = refl
 element-append (l ∷ xs) ys v = rw (element-append xs ys v) (sym (or-else-assoc (elementIn v (partOf (l .says))) (elementAt xs v) (elementAt ys v)))
 
-or-assoc : (a b c : Bool) → (a || b) || c ≡ a || (b || c)
-or-assoc true b c = refl
-or-assoc false b c = refl
-
 pub taken-append : (xs ys : List Line) (a : ℕ) → taken (xs ++ ys) a ≡ taken xs a || taken ys a
 unfolding taken
 taken-append [] ys a = refl
@@ -43,21 +40,9 @@ or-nothing : {A : Type 0} (a : Found A) → orElse a nothing ≡ a
 or-nothing (found a) = refl
 or-nothing nothing = refl
 
-or-false : (a : Bool) → a || false ≡ a
-or-false true = refl
-or-false false = refl
-
-or-true : (a : Bool) → a || true ≡ true
-or-true true = refl
-or-true false = refl
-
 undefined : {A : Type 0} (a : Found A) → defined a ≡ false → a ≡ nothing
 undefined (found a) h = let z : _≡_ {A = Bool} true false = h in (cc)
 undefined nothing h = refl
-
-first-false : (a b : Bool) → a || b ≡ false → a ≡ false
-first-false true b h = h
-first-false false b h = refl
 
 module _ (before : List Line) (l : Line) where
   terms-kept : ((u : ℕ) → term (l ∷ []) u ≡ nothing) → term (before ++ (l ∷ [])) ≡ term before
@@ -67,7 +52,7 @@ module _ (before : List Line) (l : Line) where
   elements-kept h = fun-ext (λ v. element-append before (l ∷ []) v ∙ rw (h v) (or-nothing (elementAt before v)))
 
   taken-kept : ((a : ℕ) → taken (l ∷ []) a ≡ false) → taken (before ++ (l ∷ [])) ≡ taken before
-  taken-kept h = fun-ext (λ a. taken-append before (l ∷ []) a ∙ rw (h a) (or-false (taken before a)))
+  taken-kept h = fun-ext (λ a. taken-append before (l ∷ []) a ∙ rw (h a) (or-none (taken before a)))
 
   -- a line that defines a term
   terms-more : (u : ℕ) (x : Term) → ((v : ℕ) → term (l ∷ []) v ≡ pick (eqb v u) (found x) nothing) → term before u ≡ nothing
@@ -91,16 +76,16 @@ module _ (before : List Line) (l : Line) where
     where
       go : (v : ℕ) (b : Bool) → taken before v || b ≡ pick b true (taken before v)
       go v true = or-true (taken before v)
-      go v false = or-false (taken before v)
+      go v false = or-none (taken before v)
 
   -- a line that is not faulty adds what it says
   pub add-known : (s : Part) → partOf (l .says) ≡ s → faulty (known before) s ≡ false → add (known before) s ≡ known (before ++ (l ∷ []))
   unfolding add faulty term elementAt taken
   add-known (defines u x) e h =
-      rw (terms-more u x (λ v. rw e (or-nothing _)) (undefined (term before u) (first-false _ _ h)), elements-kept (λ v. rw e), taken-kept (λ a. rw e))
+      rw (terms-more u x (λ v. rw e (or-nothing _)) (undefined (term before u) (or-neither _ _ h .0)), elements-kept (λ v. rw e), taken-kept (λ a. rw e))
   add-known (collects v x) e h =
-      rw (terms-kept (λ u. rw e), elements-more v x (λ u. rw e (or-nothing _)) (undefined (elementAt before v) (first-false _ _ h)), taken-kept (λ a. rw e))
-  add-known (states a p vs g) e h = rw (terms-kept (λ u. rw e), elements-kept (λ v. rw e), taken-more a (λ v. rw e (or-false _)))
+      rw (terms-kept (λ u. rw e), elements-more v x (λ u. rw e (or-nothing _)) (undefined (elementAt before v) (or-neither _ _ h .0)), taken-kept (λ a. rw e))
+  add-known (states a p vs g) e h = rw (terms-kept (λ u. rw e), elements-kept (λ v. rw e), taken-more a (λ v. rw e (or-none _)))
   add-known other e h = rw (terms-kept (λ u. rw e), elements-kept (λ v. rw e), taken-kept (λ a. rw e))
 
 -- ---- the walk

@@ -2,7 +2,7 @@
 use Prim.Native.Nat.{ℕ, zero, suc, _+_, _-_, _≤_, _<_}
 use mathlib.Core.Path.{_≡_, refl, sym, ap, _∙_}
 use mathlib.Core.Bool.{Bool, true, false, _&&_, _||_, not}
-use mathlib.Core.List.{List, [], _∷_, _++_}
+use mathlib.Core.List.{List, [], _∷_}
 use native.Mathlib.Omega.{arith}
 use native.Mathlib.Numerals.{add-one}
 use borrow.Author.Tests.{ne-eqb, eqb-true, eqb-false}
@@ -12,6 +12,8 @@ use lib.Dec.{eqb}
 use Rattle.faults.specs.Answer.{pick}
 use Rattle.aspif.specs.Statements.{choice, Statement}
 use Rattle.faults.specs.Marks.{among}
+use Rattle.faults.proofs.Bools.{or-none}
+use Rattle.faults.proofs.Marks.{among-append}
 use Rattle.aspif.specs.Grammar.{headOf, plainHead}
 use Rattle.aspif.specs.Words.{word, behind, saysAt, after, linesFrom, linesOf, Taped}
 use Rattle.terms.specs.Says.{inHead, heads, headed}
@@ -41,21 +43,9 @@ pub marked-out : (l : List ℕ) (a : ℕ) → length l ≤ a → false ≡ marke
 unfolding marked
 marked-out l a h = rw (List·getD-eq-default l 0 h)
 
-among-append : (a : ℕ) (xs ys : List ℕ) → among a (xs ++ ys) ≡ among a xs || among a ys
-among-append a [] ys = refl
-among-append a (x ∷ xs) ys = rw (among-append a xs ys) (or-assoc (eqb a x) (among a xs) (among a ys))
-  where
-    or-assoc : (p q r : Bool) → p || (q || r) ≡ (p || q) || r
-    or-assoc true q r = refl
-    or-assoc false q r = refl
-
-or-false : (b : Bool) → b || false ≡ b
-or-false true = refl
-or-false false = refl
-
 -- one more number of a list
 among-more : (a : ℕ) (xs : List ℕ) (i : ℕ) → i < length xs → among a (take (i + 1) xs) ≡ among a (take i xs) || eqb a (getD xs i 0)
-among-more a xs i h = rw (add-one i, take-suc xs i 0 h, among-append a (take i xs) (getD xs i 0 ∷ []), or-false (eqb a (getD xs i 0)))
+among-more a xs i h = rw (add-one i, take-suc xs i 0 h, among-append a (take i xs) (getD xs i 0 ∷ []), or-none (eqb a (getD xs i 0)))
 
 pub marks-as : {size : ℕ} {x : List ℕ} (f g : ℕ → Bool) → ((n : ℕ) → f n ≡ g n) → Marks size x f → Marks size x g
 marks-as f g h m = record { places = m .places; each = λ n l. m .each n l ∙ h n }
@@ -157,7 +147,7 @@ head-is t q c n a = go (eqb c 0) n
     go : (b : Bool) (n : ℕ) → inHead a (pick b (plainHead (wordsAt t q n)) (choice (wordsAt t q n))) ≡ among a (wordsAt t q (pick b (pick (eqb n 0) 0 1) n))
     go false n = refl
     go true zero = refl
-    go true (suc n) = rw (ne-eqb (suc n) 0 (λ z. omega arith)) (sym (or-false (eqb a (word t q))))
+    go true (suc n) = rw (ne-eqb (suc n) 0 (λ z. omega arith)) (sym (or-none (eqb a (word t q))))
 
 pub line-heads : (t : List ℕ) (p k c n m : ℕ) (l l′ : List ℕ) → after t p ≤ length t → k ≡ word t (p + 0) → k ≡ 1 → c ≡ word t (p + 2) → n ≡ word t (p + 3) → m ≡ headCount c n
     → ((a : ℕ) → a < length l → marked l′ a ≡ among a (wordsAt t (p + 4) m) || marked l a)
@@ -179,7 +169,7 @@ pub record Heading (t : List ℕ) (n : ℕ) (l₀ l : List ℕ) (p left : ℕ) :
 
 pub heads-start : (t : List ℕ) (n : ℕ) (l : List ℕ) → Taped t n → Marks 4097 l (λ a. false) → Heading t n l l 0 n
 heads-start t n l q m =
-    record { rest = λ a h. rw (m .each a h) (or-false (headed (linesOf t n) a)); same = refl; places = m .places; ahead = ahead-start t n q }
+    record { rest = λ a h. rw (m .each a h) (or-none (headed (linesOf t n) a)); same = refl; places = m .places; ahead = ahead-start t n q }
 
 pub heads-next : {t : List ℕ} {n : ℕ} {l₀ l : List ℕ} {p left : ℕ} (l′ : List ℕ) (next : ℕ) → 0 < left → next ≡ after t p → length l′ ≡ length l
     → ((a : ℕ) → a < length l → marked l′ a ≡ heads a (saysAt t p) || marked l a)

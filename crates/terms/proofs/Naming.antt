@@ -14,6 +14,7 @@ use lib.IntN.{ℤ}
 use Rattle.faults.specs.Answer.{got, pick}
 use Rattle.aspif.specs.Statements.{Line, Statement, rule, output, numeric, string, compound, element, theory, guarded, comment}
 use Rattle.faults.specs.Marks.{among, marks, isMarked}
+use Rattle.faults.proofs.Bools.{or-cases, or-true}
 use Rattle.aspif.specs.Words.{word, Small, AllSmall}
 use Rattle.diffs.specs.Diff.{Diff, All}
 use Rattle.terms.specs.Says.{Name, Ascending, Names, headed, partOf}
@@ -57,10 +58,6 @@ record Stands (g : Stated → ℕ) (ds : List Stated) (n : ℕ) : Type 0 where
   listed : Lists ds atom diff
   is : g (record { atom = atom; says = diff }) ≡ n
 
-or-cases : (a b : Bool) → a || b ≡ true → (a ≡ true) ⊎ (b ≡ true)
-or-cases true b h = inl refl
-or-cases false b h = inr h
-
 stands : (g : Stated → ℕ) (ds : List Stated) (n : ℕ) → among n (map g ds) ≡ true → Stands g ds n
 stands g [] n h = let z : _≡_ {A = ℕ} 0 1 = (cc) in absurd (omega arith)
 stands g (s ∷ ds) n h =
@@ -68,14 +65,10 @@ stands g (s ∷ ds) n h =
     (λ e. let r = stands g ds n e in record { atom = r .atom; diff = r .diff; listed = inr (r .listed); is = r .is })
     (or-cases (eqb n (g s)) (among n (map g ds)) h)
 
-or-right : (a : Bool) → a || true ≡ true
-or-right true = refl
-or-right false = refl
-
 found-in : (g : Stated → ℕ) (ds : List Stated) (a : ℕ) (d : Diff) → Lists ds a d → among (g (record { atom = a; says = d })) (map g ds) ≡ true
 found-in g [] a d q = absurd q
 found-in g (s ∷ ds) a d q =
-    ⊎-elim (λ e. rw (eq-eqb (g (record { atom = a; says = d })) (g s) (ap g (sym e)))) (λ w. rw (found-in g ds a d w) (or-right (eqb (g (record { atom = a; says = d })) (g s)))) q
+    ⊎-elim (λ e. rw (eq-eqb (g (record { atom = a; says = d })) (g s) (ap g (sym e)))) (λ w. rw (found-in g ds a d w) (or-true (eqb (g (record { atom = a; says = d })) (g s)))) q
 
 -- ---- names
 
@@ -94,7 +87,7 @@ module _ (ls : List Line) (ds : List Stated) (h : differences ls ≡ got ds) whe
       let l = says-listed ls ds h (q .atom) (q .diff) (q .says) in
       ⊎-elim
       (λ e. rw (rw e at (found-in (λ (s : Stated). s .says .x) ds (q .atom) (q .diff) l)))
-      (λ e. rw (rw e at (found-in (λ (s : Stated). s .says .y) ds (q .atom) (q .diff) l)) (or-right (among n (xsIn ds))))
+      (λ e. rw (rw e at (found-in (λ (s : Stated). s .says .y) ds (q .atom) (q .diff) l)) (or-true (among n (xsIn ds))))
       (q .side)
 
 -- ---- atoms are small
@@ -164,7 +157,7 @@ marked-among i (b ∷ x) zero q = rw (q, add-zero i, eq-eqb i i refl)
 marked-among i (b ∷ x) (suc k) q = go (eqb b 1) (marked-among (i + 1) x k q)
   where
     go : (c : Bool) → among (i + 1 + k) (marks (i + 1) x) ≡ true → among (i + suc k) (pick c (i ∷ marks (i + 1) x) (marks (i + 1) x)) ≡ true
-    go true h = let e : i + suc k ≡ i + 1 + k = omega arith in rw (e, h) (or-right (eqb (i + 1 + k) i))
+    go true h = let e : i + suc k ≡ i + 1 + k = omega arith in rw (e, h) (or-true (eqb (i + 1 + k) i))
     go false h = let e : i + suc k ≡ i + 1 + k = omega arith in rw (e, h)
 
 marked-within : (x : List ℕ) (n : ℕ) → marked x n ≡ true → n < length x

@@ -12,6 +12,8 @@ use Rattle.aspif.specs.Statements.{Line}
 use Rattle.diffs.specs.Diff.{Diff, All, NotIn, Distinct}
 use Rattle.terms.specs.Says.{Guard, unguarded, guard, Part, defines, collects, states, other, partOf, Found, found, nothing, term, elementAt, Difference, SaysIn, Some, Says}
 use Rattle.faults.specs.Marks.{among}
+use Rattle.faults.proofs.Bools.{or-neither}
+use Rattle.diffs.proofs.Names.{all-map}
 use Rattle.terms.specs.Terms.{statesIn, known, taken, defined, differenceOf, undefinedUse, notDifference, faulty, Stated, statedBy, more, differencesFrom, differences, Lists}
 use Rattle.terms.proofs.Known.{taken-append}
 use Rattle.terms.proofs.Differing.{said, unsaid, said-more, said-one}
@@ -160,17 +162,9 @@ module _ (ls : List Line) (ds : List Stated) (h : differences ls ≡ got ds) whe
 
 -- ---- an atom says one difference
 
-or-false : (a b : Bool) → a || b ≡ false → (a ≡ false) × (b ≡ false)
-or-false false b h = (refl, h)
-or-false true b h = let z : _≡_ {A = Bool} true false = h in ((cc), (cc))
-
 -- not taken by the lines before and this one
 untaken : (before : List Line) (l : Line) (a : ℕ) → taken (before ++ (l ∷ [])) a ≡ false → (taken before a ≡ false) × (taken (l ∷ []) a ≡ false)
-untaken before l a h = or-false (taken before a) (taken (l ∷ []) a) (sym (taken-append before (l ∷ []) a) ∙ h)
-
-all-map : {A : Type 0} (P Q : A → Type 0) → ((x : A) → P x → Q x) → (xs : List A) → All P xs → All Q xs
-all-map P Q f [] h = tt
-all-map P Q f (x ∷ xs) h = (f x (h .0), all-map P Q f xs (h .1))
+untaken before l a h = or-neither (taken before a) (taken (l ∷ []) a) (sym (taken-append before (l ∷ []) a) ∙ h)
 
 -- atoms that were taken neither before nor by each other
 record Apart (before : List Line) (ds : List Stated) : Type 0 where
@@ -179,7 +173,7 @@ record Apart (before : List Line) (ds : List Stated) : Type 0 where
 
 not-atom : (b : ℕ) (ds : List Stated) → All (λ (s : Stated). eqb (s .atom) b || false ≡ false) ds → NotIn b (map (λ (s : Stated). s .atom) ds)
 not-atom b [] h = tt
-not-atom b (s ∷ ds) h = (λ e. eqb-false (s .atom) b (or-false (eqb (s .atom) b) false (h .0) .0) (sym e), not-atom b ds (h .1))
+not-atom b (s ∷ ds) h = (λ e. eqb-false (s .atom) b (or-neither (eqb (s .atom) b) false (h .0) .0) (sym e), not-atom b ds (h .1))
 
 module _ (before : List Line) (l : Line) (rest ds : List Stated) (r : Apart (before ++ (l ∷ [])) rest) where
   still-fresh : All (λ (s : Stated). taken before (s .atom) ≡ false) rest

@@ -2,7 +2,7 @@
 use Prim.Native.Nat.{ℕ, zero, suc, _+_, _≤_, _<_}
 use mathlib.Core.Path.{_≡_, refl, sym, _∙_, fun-ext}
 use mathlib.Core.List.{List, [], _∷_, append-assoc}
-use mathlib.Core.Bool.{Bool, true, false, _&&_, _||_}
+use mathlib.Core.Bool.{Bool, true, false, _&&_}
 use native.Mathlib.Omega.{arith}
 use native.Mathlib.Numerals.{add-one}
 use borrow.Author.Tests.{eq-eqb, ne-eqb, eqb-true, eqb-false}
@@ -14,6 +14,7 @@ use Rattle.faults.specs.Answer.{Answer, got, refused, bind, pick}
 use Rattle.faults.specs.Values.{asStep}
 use Rattle.faults.specs.declared.Step.{Step}
 use Rattle.faults.specs.declared.Step.the-variants.{Good, Refused}
+use Rattle.faults.proofs.Bools.{or-true}
 use Rattle.aspif.specs.Statements.{Line}
 use Rattle.aspif.specs.Words.{word}
 use Rattle.diffs.specs.Diff.{Diff}
@@ -142,10 +143,6 @@ all-known look els p (v ∷ []) (guard g u) d h =
     rw (string-defined diffWord (look p) (q .name-is), pair-there look (els v) (q .pair-is), string-defined atMost (look g) (q .guard-is), bound-defined look (look u) (q .bound-is))
 
 -- ---- a theory atom's turn
-
-or-true : (a : Bool) → a || true ≡ true
-or-true true = refl
-or-true false = refl
 
 module _ (t terms els seen : List ℕ) (p : ℕ) where
   -- what the line at p states, as it stands on the tape

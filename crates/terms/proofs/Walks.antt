@@ -12,6 +12,7 @@ use Rattle.faults.specs.declared.Step.the-variants.{Good, Refused}
 use Rattle.faults.specs.declared.Refusal.{Refusal}
 use Rattle.aspif.specs.Statements.{Line}
 use Rattle.aspif.specs.Words.{word, lineAt, after, linesFrom, linesOf, Within, AllSmall, Taped}
+use Rattle.aspif.proofs.Walking.{within-starts, within-next}
 use Rattle.terms.specs.Terms.{differences}
 use Rattle.terms.specs.Tables.{Blank, envOf, walk, heldAt, firsts, gather, Room, countedIf, LineOn}
 use Rattle.terms.specs.Values.{asDifferences, Roomy}
@@ -27,11 +28,6 @@ pub record Ahead (t : List ℕ) (p left : ℕ) : Type 0 where
 pub ahead-start : (t : List ℕ) (n : ℕ) → Taped t n → Ahead t 0 n
 ahead-start t n q = record { within = q .within; small = q .small }
 
-within-starts : (t : List ℕ) (p left : ℕ) → Within t p left → p ≤ length t
-unfolding Within
-within-starts t p zero w = w
-within-starts t p (suc n) w = w .0
-
 module _ (t : List ℕ) (p left : ℕ) (h : 0 < left) where
   pub next-line : linesFrom t p left ≡ lineAt t p ∷ linesFrom t (after t p) (left - 1)
   unfolding linesFrom
@@ -41,20 +37,12 @@ module _ (t : List ℕ) (p left : ℕ) (h : 0 < left) where
       go zero h = absurd (omega arith)
       go (suc k) h = let d : suc k - 1 ≡ k = omega arith in rw d
 
-  within-next : Within t p left → Within t (after t p) (left - 1)
-  unfolding Within
-  within-next = go left h
-    where
-      go : (left : ℕ) → 0 < left → Within t p left → Within t (after t p) (left - 1)
-      go zero h w = absurd (omega arith)
-      go (suc k) h w = let d : suc k - 1 ≡ k = omega arith in rw d (w .1)
-
   -- the line at p is within the tape and keeps to the bounds
   pub line-on : Ahead t p left → LineOn t p
-  line-on q = record { starts = within-starts t p left (q .within); ends = within-starts t (after t p) (left - 1) (within-next (q .within)); small = (rw next-line at (q .small)) .0 .1 }
+  line-on q = record { starts = within-starts t p left (q .within); ends = within-starts t (after t p) (left - 1) (within-next t p left h (q .within)); small = (rw next-line at (q .small)) .0 .1 }
 
   pub ahead-next : (next : ℕ) → next ≡ after t p → Ahead t p left → Ahead t next (left - 1)
-  ahead-next next e q = rw e (record { within = within-next (q .within); small = (rw next-line at (q .small)) .1 })
+  ahead-next next e q = rw e (record { within = within-next t p left h (q .within); small = (rw next-line at (q .small)) .1 })
 
 -- ---- tables that keep their lengths
 

@@ -1,21 +1,14 @@
 -- What a passed test of bounds says: of the first number or record, of how many there are, of a whole content.
 use Prim.Native.Nat.{ℕ, _+_, _≤_}
-use mathlib.Core.Path.{_≡_, refl}
-use mathlib.Core.Bool.{Bool, true, false, _&&_}
+use mathlib.Core.Path.{_≡_}
+use mathlib.Core.Bool.{true, _&&_}
 use mathlib.Core.List.{List, [], _∷_}
 use native.Mathlib.Omega.{arith}
 use borrow.Author.Tests.{leb-true}
 use lib.Dec.{leb}
 use lib.ListN.{length, length-map}
+use Rattle.faults.proofs.Bools.{and-cases}
 use Rattle.timetable.specs.Table.{Record, Content, lastTerm, latest, lastAtom, ascending, inTime, namesOf, within}
-
-pub and-left : (a b : Bool) → a && b ≡ true → a ≡ true
-and-left true b h = refl
-and-left false b h = h
-
-pub and-right : (a b : Bool) → a && b ≡ true → b ≡ true
-and-right true b h = h
-and-right false b h = absurd (let z : _≡_ {A = ℕ} 0 1 = (cc) in omega arith)
 
 pub record First (low high x : ℕ) (xs : List ℕ) : Type 0 where
   pub above : low ≤ x
@@ -28,11 +21,11 @@ first low high x xs h =
     let a = leb low x in
     let b = leb x high in
     let d = ascending (x + 1) high xs in
-    let ab = and-left (a && b) d h in
+    let ab = and-cases (a && b) d h .0 in
     record {
-      above = leb-true low x (and-left a b ab);
-      below = leb-true x high (and-right a b ab);
-      others = and-right (a && b) d h;
+      above = leb-true low x (and-cases a b ab .0);
+      below = leb-true x high (and-cases a b ab .1);
+      others = and-cases (a && b) d h .1;
     }
 
 -- strictly ascending numbers are no more than there are from low to high
@@ -50,7 +43,7 @@ pub first-time : (r : Record) (rs : List Record) → inTime (r ∷ rs) ≡ true 
 unfolding inTime
 first-time r rs h =
     let a = leb (r .time) latest in
-    record { timely = leb-true (r .time) latest (and-left a (inTime rs) h); others = and-right a (inTime rs) h }
+    record { timely = leb-true (r .time) latest (and-cases a (inTime rs) h .0); others = and-cases a (inTime rs) h .1 }
 
 pub record Within (c : Content) : Type 0 where
   pub names : ascending 0 lastTerm (namesOf (c .records)) ≡ true
@@ -63,8 +56,8 @@ is-within c h =
     let a = ascending 0 lastTerm (namesOf (c .records)) in
     let b = inTime (c .records) in
     let d = ascending 1 lastAtom (c .atoms) in
-    let ab = and-left (a && b) d h in
-    record { names = and-left a b ab; times = and-right a b ab; atoms = and-right (a && b) d h }
+    let ab = and-cases (a && b) d h .0 in
+    record { names = and-cases a b ab .0; times = and-cases a b ab .1; atoms = and-cases (a && b) d h .1 }
 
 pub from-within : (c : Content) → Within c → within c ≡ true
 unfolding within

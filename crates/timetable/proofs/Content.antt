@@ -130,7 +130,8 @@ unfolding atomsAt atomBytes
 atoms-forth s q zero p h = let l : length s ≤ p = omega arith in drop-of-length-le s l
 atoms-forth s q (suc k) p h = word-forth s q p (omega arith) ∙ rw (atoms-forth s q k (p + 4) (omega arith))
 
-records-length : (s : List ℕ) (k p : ℕ) → length (recordsAt s k p) ≡ k
+-- k records are k
+pub records-length : (s : List ℕ) (k p : ℕ) → length (recordsAt s k p) ≡ k
 unfolding recordsAt
 records-length s zero p = refl
 records-length s (suc k) p = rw (records-length s k (p + 8))

@@ -3,10 +3,11 @@ use Prim.Native.Nat.{ℕ, zero, suc, _+_, _≤_}
 use mathlib.Core.Path.{_≡_, refl}
 use mathlib.Core.List.{List, [], _∷_}
 use native.Mathlib.Omega.{arith}
-use lib.ListN.{length, getD, drop, replicate, length-replicate}
+use lib.ListN.{length, drop, replicate, length-replicate}
 use Rattle.faults.specs.Answer.{got, refused}
 use Rattle.timetable.specs.Word.{word, wordAt}
 use Rattle.faults.specs.Marks.{marks, markedFrom}
+use Rattle.faults.proofs.Lists.{zeros}
 use Rattle.timetable.specs.Table.{Content, recordBytes, atomBytes, headerBytes, tableOf, ascending, inTime, within, recordsAt, atomsAt, isTable}
 use Rattle.timetable.specs.Times.{timeAmong, timeOf}
 use Rattle.timetable.specs.Given.{timeAt, recordsOf, given, Sized, Timely}
@@ -33,11 +34,6 @@ sized =
       atoms-long = refl;
       room-long = omega (arith, length-replicate {A = ℕ} 24592 0);
     }
-
-zeros : (n k : ℕ) → _≡_ {A = ℕ} (getD (replicate n 0) k 0) 0
-zeros zero k = refl
-zeros (suc n) zero = refl
-zeros (suc n) (suc k) = zeros n k
 
 early : (u : ℕ) → timeAt times u ≤ 5
 unfolding times

@@ -8,10 +8,10 @@ use borrow.Author.Tests.{eqb-true, eq-eqb, ne-eqb, le-leb, lt-leb}
 use lib.Dec.{eqb, leb}
 use lib.ListN.{length}
 use Rattle.faults.specs.Answer.{got, refused}
+use Rattle.faults.proofs.Bools.{and-cases}
 use Rattle.timetable.specs.Word.{wordAt}
 use Rattle.timetable.specs.Table.{lastTerm, latest, lastAtom, ascending, inTime, namesOf, within, recordsAt, atomsAt, nameCount, atomCount, shown, isTable}
 use Rattle.timetable.specs.Times.{timeAmong}
-use Rattle.timetable.proofs.Bounds.{and-left, and-right}
 
 -- ---- records
 
@@ -135,13 +135,13 @@ passed s h =
     let a = eqb (length s) (16 + 8 * nameCount s + 4 * atomCount s) in
     let b = eqb (wordAt s 8) 16 in
     let c = eqb (wordAt s 12) (16 + 8 * nameCount s) in
-    let abc = and-left (a && b && c) (within (shown s)) h in
-    let ab = and-left (a && b) c abc in
+    let abc = and-cases (a && b && c) (within (shown s)) h .0 in
+    let ab = and-cases (a && b) c abc .0 in
     record {
-      whole = eqb-true (length s) (16 + 8 * nameCount s + 4 * atomCount s) (and-left a b ab);
-      first = eqb-true (wordAt s 8) 16 (and-right a b ab);
-      second = eqb-true (wordAt s 12) (16 + 8 * nameCount s) (and-right (a && b) c abc);
-      bounds = and-right (a && b && c) (within (shown s)) h;
+      whole = eqb-true (length s) (16 + 8 * nameCount s + 4 * atomCount s) (and-cases a b ab .0);
+      first = eqb-true (wordAt s 8) 16 (and-cases a b ab .1);
+      second = eqb-true (wordAt s 12) (16 + 8 * nameCount s) (and-cases (a && b) c abc .1);
+      bounds = and-cases (a && b && c) (within (shown s)) h .1;
     }
 
 pub passes : (s : List ℕ) → Passed s → isTable s ≡ true

@@ -3,15 +3,10 @@ use Prim.Native.Nat.{ℕ, suc, _+_, _-_, _≤_}
 use mathlib.Core.Path.{_≡_, refl, _∙_}
 use mathlib.Core.List.{List, [], _∷_, _++_, append-nil}
 use native.Mathlib.Omega.{arith}
-use native.Mathlib.Nat.{add-zero, zero-add}
+use native.Mathlib.Nat.{zero-add}
 use lib.ListN.{length, set, take, drop, length-drop, drop-of-length-le, take-append-drop}
 use lib.Seq.{sets, take-all, length-take-le}
-
-sets-append : (l : List ℕ) (o : ℕ) (xs ys : List ℕ) → sets (sets l o xs) (o + length xs) ys ≡ sets l o (xs ++ ys)
-sets-append l o [] ys = rw add-zero
-sets-append l o (x ∷ xs) ys =
-    let e : o + suc (length xs) ≡ suc o + length xs = omega arith in
-    rw e (sets-append (set l o x) (suc o) xs ys)
+use Rattle.faults.proofs.Lists.{sets-append}
 
 -- a run that is stored where the run before it ends is one run with it
 pub sets-next : (l r : List ℕ) (o p : ℕ) (xs ys : List ℕ) → r ≡ sets l o xs → p ≡ o + length xs

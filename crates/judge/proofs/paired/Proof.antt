@@ -5,7 +5,7 @@ use borrow.Author.Needs.{needs}
 use mathlib.Core.Path.{refl, sym, _∙_}
 use Rattle.judge.specs.Judged.{unreadable, ready}
 use Rattle.judge.proofs.Staging.{zero-unmarked, pair-ready, pair-refused}
-use Rattle.judge.proofs.Blank.{blank-atoms}
+use Rattle.aspif.proofs.Candidates.{blank-zeros}
 use Rattle.judge.proofs.paired.Statement.{statement}
 use Rattle.judge.proofs.paired.Tie as tie
 
@@ -13,7 +13,7 @@ slice-aggregate-candidate : tie.Need-slice-aggregate-candidate
 slice-aggregate-candidate c = search needs
 
 candidate-requires : tie.Need-candidate-requires
-candidate-requires c κs = blank-atoms
+candidate-requires c κs = blank-zeros
 
 enum-known-a : tie.Need-enum-known-a
 enum-known-a c = search needs

@@ -1,5 +1,5 @@
--- `print_candidate`: the bitmap is blank. Assumes nothing.
-use Rattle.read_vectors.proofs.Rooms.{blank}
+-- `print_candidate`: the bitmap is blank-zeros. Assumes nothing.
+use Rattle.aspif.proofs.Candidates.{blank-zeros}
 use borrow.Author.Needs.{needs}
 use Rattle.read_vectors.proofs.cases.print_candidate.Statement.{statement}
 use Rattle.read_vectors.proofs.cases.print_candidate.Tie as tie
@@ -8,7 +8,7 @@ slice-aggregate-candidate : tie.Need-slice-aggregate-candidate
 slice-aggregate-candidate c = search needs
 
 candidate-requires : tie.Need-candidate-requires
-candidate-requires c κs = blank
+candidate-requires c κs = blank-zeros
 
 enum-told : tie.Need-enum-told
 enum-told c = search needs

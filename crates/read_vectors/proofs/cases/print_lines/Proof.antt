@@ -1,6 +1,6 @@
 -- `print_lines`: the lines that are left stand within the tape. Assumes nothing.
 use Rattle.aspif.specs.Words.{Within}
-use Rattle.read_vectors.proofs.Rooms.{within-here, within-next}
+use Rattle.aspif.proofs.Walking.{within-starts, within-next}
 use native.Mathlib.Omega.{arith}
 use borrow.Author.Needs.{needs}
 use Rattle.read_vectors.proofs.cases.print_lines.Statement.{statement}
@@ -28,10 +28,10 @@ loop-holds : tie.Need-loop-holds Inv-loop μ-loop
 loop-holds c = search needs
 
 after-at-requires : tie.Need-after-at-requires Inv-loop μ-loop
-after-at-requires c κs = within-here _ _ _ (c .before .loop .inv)
+after-at-requires c κs = within-starts _ _ _ (c .before .loop .inv)
 
 print-line-requires : tie.Need-print-line-requires Inv-loop μ-loop
-print-line-requires c κs = within-here _ _ _ (c .before .before .loop .inv)
+print-line-requires c κs = within-starts _ _ _ (c .before .before .loop .inv)
 
 sub-left : tie.Need-sub-left Inv-loop μ-loop
 sub-left c = search needs

@@ -1,8 +1,8 @@
 -- Laws of `and`, `or` and `pick`. Assumes nothing.
-use mathlib.Core.Bool.{Bool, true, false, _&&_, _||_}
+use mathlib.Core.Bool.{Bool, true, false, _&&_, _||_, true≢false}
 use mathlib.Core.Logic.{_⊎_, inl, inr}
 use mathlib.Core.Path.{_≡_, refl}
 use Rattle.faults.specs.Answer.{pick}
 
 pub or-left : (a b : Bool) → a ≡ true → (a || b) ≡ true
 or-left a b e = rw e
@@ -14,6 +14,23 @@ or-right false b e = e
 pub or-none : (a : Bool) → (a || false) ≡ a
 or-none true = refl
 or-none false = refl
+
+pub or-true : (a : Bool) → (a || true) ≡ true
+or-true true = refl
+or-true false = refl
+
+-- the other, if it is false, changes nothing
+pub or-else : (a b : Bool) → b ≡ false → (a || b) ≡ a
+or-else true b e = refl
+or-else false b e = e
+
+pub or-neither : (a b : Bool) → (a || b) ≡ false → (a ≡ false) × (b ≡ false)
+or-neither true b e = (e, absurd (true≢false e))
+or-neither false b e = (refl, e)
+
+pub or-assoc : (a b c : Bool) → ((a || b) || c) ≡ (a || (b || c))
+or-assoc true b c = refl
+or-assoc false b c = refl
 
 pub or-swap : (a b : Bool) → (a || b) ≡ (b || a)
 or-swap true true = refl
