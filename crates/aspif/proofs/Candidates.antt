@@ -31,7 +31,7 @@ natural-fault k most s at i p = go (isNatural (field s at)) (leb (value 0 (field
     go false u e = (cc)
 
 -- a natural to 4,096 has at most four digits
-field-short : (f : List ℕ) → isNatural f ≡ true → value 0 f ≤ 4096 → length f ≤ 4
+pub field-short : (f : List ℕ) → isNatural f ≡ true → value 0 f ≤ 4096 → length f ≤ 4
 unfolding isNatural value allDigits
 field-short [] h l = omega arith
 field-short (a ∷ []) h l = omega arith
@@ -72,11 +72,11 @@ module _ (low : ℕ) (s : List ℕ) (at : ℕ) where
   above-good {v} e l = rw (← e, lt-leb v low l)
 
 -- what an atom above another is: a fault at its first byte, or a number in its bounds
-data Above (low : ℕ) (s : List ℕ) (at : ℕ) : Reading ℕ → Type 0 where
+pub data Above (low : ℕ) (s : List ℕ) (at : ℕ) : Reading ℕ → Type 0 where
   none : Above low s at (fault 7 at)
   some : {v n : ℕ} → low < v → v ≤ 4096 → n ≤ length s → n ≤ at + 4 → Above low s at (found v n)
 
-above : (low : ℕ) (s : List ℕ) (at : ℕ) → Above low s at (atomAbove low s at)
+pub above : (low : ℕ) (s : List ℕ) (at : ℕ) → Above low s at (atomAbove low s at)
 unfolding atomAbove
 above low s at = go (natural 7 4096 s at) refl
   where
@@ -108,7 +108,7 @@ ended s at l = go (eqb (byteAt s at) 10) (ltb (at + 1) (length s)) refl
 -- ---- the counter
 
 -- what follows the atom v that ends at m, with n of the counter left
-abbrev onward : (n : ℕ) → List ℕ → (v m : ℕ) → Reading (List ℕ)
+abbrev pub onward : (n : ℕ) → List ℕ → (v m : ℕ) → Reading (List ℕ)
 onward n s v m = pick (eqb (byteAt s m) 32) (bind (ascending n v s (m + 1)) (λ vs l. found (v ∷ vs) l)) (bind (ending s m) (λ u l. found (v ∷ []) l))
 
 -- one turn

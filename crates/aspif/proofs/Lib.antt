@@ -5,6 +5,7 @@ pub mod Decoding
 pub mod Bounds
 pub mod Counter
 pub mod Candidates
+pub mod Fronts
 pub mod Inside
 pub mod Ending
 pub mod Turns

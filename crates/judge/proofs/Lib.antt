@@ -9,6 +9,7 @@ pub mod Tables
 pub mod Judgements
 pub mod Demand1
 pub mod Places
+pub mod Fronts
 pub mod Demand2
 pub mod Texts
 pub mod Models

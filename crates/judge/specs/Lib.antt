@@ -8,6 +8,7 @@ pub mod Later
 pub mod Demand3
 pub mod Demand1
 pub mod Bounds
+pub mod Fronts
 pub mod Texts
 pub mod Starred
 pub mod Stages

@@ -9,9 +9,8 @@ fn judge_and_print(text: &[u8], cand: &[u8]) {
     io::write_all(STDOUT_FILENO, &out[..n]);
 }
 
-// Reads both files. What lies past 65,536 bytes of one can't change the verdict: a text of more than 60,000 is refused
-// as too long, and a right candidate, of at most 4,096 atoms of at most four digits, has under 20,481 bytes, so a longer
-// one is refused, at a place of at most 20,480 (law candidate-near in aspif/proofs/Candidates.antt).
+// Reads both files, at most 65,536 bytes of each: what stands behind these changes nothing (law fronts-enough in
+// judge/proofs/Fronts.antt).
 fn main() {
     let mut text = io::large_buffer();
     let mut cand = io::large_buffer();
