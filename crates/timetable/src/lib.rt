@@ -66,7 +66,7 @@ fn put_atom(room: &mut [u8], at: usize, atom: AtomNo)
 }
 
 // How many numbers of a bitmap, from one on, are marked.
-fn count_marked(map: &[u8], from: usize) -> usize
+pub fn count_marked(map: &[u8], from: usize) -> usize
     ensures { λ r. ⌜ r ≡ length (markedFrom from (now (map .entry))) ⌝ }
     ensures { λ r. ⌜ r ≤ length (now (map .entry)) - from ⌝ }
 {

@@ -1,20 +1,20 @@
 -- `print_times` ends: the measure is what is left of the terms. Assumes nothing.
 use Prim.Native.Nat.{_-_}
 use borrow.Author.Needs.{needs}
-use Rattle.vectors.proofs.pairs.print_times.Statement.{statement}
-use Rattle.vectors.proofs.pairs.print_times.Tie as tie
+use Rattle.vectors.proofs.print_times.Statement.{statement}
+use Rattle.vectors.proofs.print_times.Tie as tie
 
 abbrev Inv-loop : tie.InvT-loop
-Inv-loop table term₀ term = Unit {0}
+Inv-loop table term₀ t4 term = Unit {0}
 
 abbrev μ-loop : tie.MeasureT-loop
-μ-loop table term₀ term = 16 - term
+μ-loop table term₀ t4 term = 16 - term
 
-slice-aggregate-print-bytes : tie.Need-slice-aggregate-print-bytes Inv-loop μ-loop
-slice-aggregate-print-bytes c = search needs
+slice-aggregate-write-all : tie.Need-slice-aggregate-write-all Inv-loop μ-loop
+slice-aggregate-write-all c = search needs
 
-print-bytes-requires : tie.Need-print-bytes-requires Inv-loop μ-loop
-print-bytes-requires c κs = search needs
+write-all-requires : tie.Need-write-all-requires Inv-loop μ-loop
+write-all-requires c κs = search needs
 
 loop-holds : tie.Need-loop-holds Inv-loop μ-loop
 loop-holds c = search needs
@@ -31,8 +31,11 @@ loop-less c = search needs
 loop-again : tie.Need-loop-again Inv-loop μ-loop
 loop-again c = search needs
 
-print-end-requires : tie.Need-print-end-requires Inv-loop μ-loop
-print-end-requires c κs = search needs
+slice-aggregate-write-all-2 : tie.Need-slice-aggregate-write-all-2 Inv-loop μ-loop
+slice-aggregate-write-all-2 c = search needs
+
+write-all-requires-2 : tie.Need-write-all-requires-2 Inv-loop μ-loop
+write-all-requires-2 c κs = search needs
 
 returns : tie.Need-returns Inv-loop μ-loop
 returns c = search needs
@@ -43,12 +46,13 @@ print-times-spec =
     (tie.spec
     Inv-loop
     μ-loop
-    slice-aggregate-print-bytes
-    print-bytes-requires
+    slice-aggregate-write-all
+    write-all-requires
     loop-holds
     print-time-requires
     add-term
     loop-less
     loop-again
-    print-end-requires
+    slice-aggregate-write-all-2
+    write-all-requires-2
     returns)

@@ -2,23 +2,23 @@
 use Prim.Native.Nat.{_≤_, _-_}
 use lib.ListN.{length}
 use borrow.Author.Needs.{needs}
-use Rattle.read_vectors.proofs.cases.print_atoms.Statement.{statement}
-use Rattle.read_vectors.proofs.cases.print_atoms.Tie as tie
+use Rattle.read_vectors.proofs.print_atoms.Statement.{statement}
+use Rattle.read_vectors.proofs.print_atoms.Tie as tie
 
 abbrev Inv-loop : tie.InvT-loop
-Inv-loop x i₀ i = i ≤ length x
+Inv-loop x i₀ t4 i = i ≤ length x
 
 abbrev μ-loop : tie.MeasureT-loop
-μ-loop x i₀ i = length x - i
+μ-loop x i₀ t4 i = length x - i
 
-slice-aggregate-print-bytes : tie.Need-slice-aggregate-print-bytes Inv-loop μ-loop
-slice-aggregate-print-bytes c = search needs
+slice-aggregate-write-all : tie.Need-slice-aggregate-write-all Inv-loop μ-loop
+slice-aggregate-write-all c = search needs
 
-print-bytes-requires : tie.Need-print-bytes-requires Inv-loop μ-loop
-print-bytes-requires c κs = search needs
+write-all-requires : tie.Need-write-all-requires Inv-loop μ-loop
+write-all-requires c κs = search needs
 
-count-requires : tie.Need-count-requires Inv-loop μ-loop
-count-requires c κs = search needs
+count-marked-requires : tie.Need-count-marked-requires Inv-loop μ-loop
+count-marked-requires c κs = search needs
 
 print-next-requires : tie.Need-print-next-requires Inv-loop μ-loop
 print-next-requires c κs = search needs
@@ -41,8 +41,11 @@ loop-less c = search needs
 loop-again : tie.Need-loop-again Inv-loop μ-loop
 loop-again c = search needs
 
-print-end-requires : tie.Need-print-end-requires Inv-loop μ-loop
-print-end-requires c κs = search needs
+slice-aggregate-write-all-2 : tie.Need-slice-aggregate-write-all-2 Inv-loop μ-loop
+slice-aggregate-write-all-2 c = search needs
+
+write-all-requires-2 : tie.Need-write-all-requires-2 Inv-loop μ-loop
+write-all-requires-2 c κs = search needs
 
 returns : tie.Need-returns Inv-loop μ-loop
 returns c = search needs
@@ -53,9 +56,9 @@ print-atoms-spec =
     (tie.spec
     Inv-loop
     μ-loop
-    slice-aggregate-print-bytes
-    print-bytes-requires
-    count-requires
+    slice-aggregate-write-all
+    write-all-requires
+    count-marked-requires
     print-next-requires
     loop-holds
     shared-slice-read-if1
@@ -63,5 +66,6 @@ print-atoms-spec =
     add-i
     loop-less
     loop-again
-    print-end-requires
+    slice-aggregate-write-all-2
+    write-all-requires-2
     returns)

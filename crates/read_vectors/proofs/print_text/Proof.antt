@@ -1,7 +1,7 @@
 -- `print_text`: a tape that was read can be walked. Assumes nothing.
 use borrow.Author.Needs.{needs}
-use Rattle.read_vectors.proofs.cases.print_text.Statement.{statement}
-use Rattle.read_vectors.proofs.cases.print_text.Tie as tie
+use Rattle.read_vectors.proofs.print_text.Statement.{statement}
+use Rattle.read_vectors.proofs.print_text.Tie as tie
 
 slice-aggregate-read : tie.Need-slice-aggregate-read
 slice-aggregate-read c = search needs

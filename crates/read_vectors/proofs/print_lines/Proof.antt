@@ -3,8 +3,8 @@ use Rattle.aspif.specs.Words.{Within}
 use Rattle.aspif.proofs.Walking.{within-starts, within-next}
 use native.Mathlib.Omega.{arith}
 use borrow.Author.Needs.{needs}
-use Rattle.read_vectors.proofs.cases.print_lines.Statement.{statement}
-use Rattle.read_vectors.proofs.cases.print_lines.Tie as tie
+use Rattle.read_vectors.proofs.print_lines.Statement.{statement}
+use Rattle.read_vectors.proofs.print_lines.Tie as tie
 
 abbrev Inv-loop : tie.InvT-loop
 Inv-loop tape n p₀ left₀ p left = Within tape p left
@@ -12,17 +12,20 @@ Inv-loop tape n p₀ left₀ p left = Within tape p left
 abbrev μ-loop : tie.MeasureT-loop
 μ-loop tape n p₀ left₀ p left = left
 
-slice-aggregate-print-bytes : tie.Need-slice-aggregate-print-bytes Inv-loop μ-loop
-slice-aggregate-print-bytes c = search needs
+slice-aggregate-write-all : tie.Need-slice-aggregate-write-all Inv-loop μ-loop
+slice-aggregate-write-all c = search needs
 
-print-bytes-requires : tie.Need-print-bytes-requires Inv-loop μ-loop
-print-bytes-requires c κs = search needs
+write-all-requires : tie.Need-write-all-requires Inv-loop μ-loop
+write-all-requires c κs = search needs
 
 print-next-requires : tie.Need-print-next-requires Inv-loop μ-loop
 print-next-requires c κs = search needs
 
-print-end-requires : tie.Need-print-end-requires Inv-loop μ-loop
-print-end-requires c κs = search needs
+slice-aggregate-write-all-2 : tie.Need-slice-aggregate-write-all-2 Inv-loop μ-loop
+slice-aggregate-write-all-2 c = search needs
+
+write-all-requires-2 : tie.Need-write-all-requires-2 Inv-loop μ-loop
+write-all-requires-2 c κs = search needs
 
 loop-holds : tie.Need-loop-holds Inv-loop μ-loop
 loop-holds c = search needs
@@ -51,10 +54,11 @@ print-lines-spec =
     (tie.spec
     Inv-loop
     μ-loop
-    slice-aggregate-print-bytes
-    print-bytes-requires
+    slice-aggregate-write-all
+    write-all-requires
     print-next-requires
-    print-end-requires
+    slice-aggregate-write-all-2
+    write-all-requires-2
     loop-holds
     after-at-requires
     print-line-requires

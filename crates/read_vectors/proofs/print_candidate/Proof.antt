@@ -1,8 +1,8 @@
 -- `print_candidate`: the bitmap is blank-zeros. Assumes nothing.
 use Rattle.aspif.proofs.Candidates.{blank-zeros}
 use borrow.Author.Needs.{needs}
-use Rattle.read_vectors.proofs.cases.print_candidate.Statement.{statement}
-use Rattle.read_vectors.proofs.cases.print_candidate.Tie as tie
+use Rattle.read_vectors.proofs.print_candidate.Statement.{statement}
+use Rattle.read_vectors.proofs.print_candidate.Tie as tie
 
 slice-aggregate-candidate : tie.Need-slice-aggregate-candidate
 slice-aggregate-candidate c = search needs

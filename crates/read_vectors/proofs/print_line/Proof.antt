@@ -1,23 +1,23 @@
 -- `print_line` ends: the measure is what is left of the line. Assumes nothing.
 use Prim.Native.Nat.{_-_}
 use borrow.Author.Needs.{needs}
-use Rattle.read_vectors.proofs.cases.print_line.Statement.{statement}
-use Rattle.read_vectors.proofs.cases.print_line.Tie as tie
+use Rattle.read_vectors.proofs.print_line.Statement.{statement}
+use Rattle.read_vectors.proofs.print_line.Tie as tie
 
 abbrev Inv-loop : tie.InvT-loop
-Inv-loop tape p end i₀ i = Unit {0}
+Inv-loop tape p end i₀ t5 i = Unit {0}
 
 abbrev μ-loop : tie.MeasureT-loop
-μ-loop tape p end i₀ i = end - i
+μ-loop tape p end i₀ t5 i = end - i
 
 word-at-requires : tie.Need-word-at-requires Inv-loop μ-loop
 word-at-requires c κs = search needs
 
-cast-print-first : tie.Need-cast-print-first Inv-loop μ-loop
-cast-print-first c = search needs
+cast-print-decimal : tie.Need-cast-print-decimal Inv-loop μ-loop
+cast-print-decimal c = search needs
 
-print-first-requires : tie.Need-print-first-requires Inv-loop μ-loop
-print-first-requires c κs = search needs
+print-decimal-requires : tie.Need-print-decimal-requires Inv-loop μ-loop
+print-decimal-requires c κs = search needs
 
 add-i : tie.Need-add-i Inv-loop μ-loop
 add-i c = search needs
@@ -43,8 +43,11 @@ loop-less c = search needs
 loop-again : tie.Need-loop-again Inv-loop μ-loop
 loop-again c = search needs
 
-print-end-requires : tie.Need-print-end-requires Inv-loop μ-loop
-print-end-requires c κs = search needs
+slice-aggregate-write-all : tie.Need-slice-aggregate-write-all Inv-loop μ-loop
+slice-aggregate-write-all c = search needs
+
+write-all-requires : tie.Need-write-all-requires Inv-loop μ-loop
+write-all-requires c κs = search needs
 
 returns : tie.Need-returns Inv-loop μ-loop
 returns c = search needs
@@ -56,8 +59,8 @@ print-line-spec =
     Inv-loop
     μ-loop
     word-at-requires
-    cast-print-first
-    print-first-requires
+    cast-print-decimal
+    print-decimal-requires
     add-i
     loop-holds
     word-at-requires-2
@@ -66,5 +69,6 @@ print-line-spec =
     add-i-2
     loop-less
     loop-again
-    print-end-requires
+    slice-aggregate-write-all
+    write-all-requires
     returns)

@@ -2,8 +2,8 @@
 use borrow.Author.Needs.{needs}
 use native.Mathlib.Omega.{arith}
 use Rattle.report.proofs.Lengths.{judged-fits}
-use Rattle.vectors.proofs.pairs.print_pair.Statement.{statement}
-use Rattle.vectors.proofs.pairs.print_pair.Tie as tie
+use Rattle.vectors.proofs.print_pair.Statement.{statement}
+use Rattle.vectors.proofs.print_pair.Tie as tie
 
 slice-aggregate-judge : tie.Need-slice-aggregate-judge
 slice-aggregate-judge c = search needs
@@ -32,11 +32,11 @@ write-requires c κs = judged-fits _ _ _ _ _ (c .before .before .before .before 
 array-share-prefix-out : tie.Need-array-share-prefix-out
 array-share-prefix-out c = search needs
 
-slice-aggregate-print-bytes : tie.Need-slice-aggregate-print-bytes
-slice-aggregate-print-bytes c = search needs
+slice-aggregate-write-all : tie.Need-slice-aggregate-write-all
+slice-aggregate-write-all c = search needs
 
-print-bytes-requires : tie.Need-print-bytes-requires
-print-bytes-requires c κs = search needs
+write-all-requires : tie.Need-write-all-requires
+write-all-requires c κs = search needs
 
 slice-aggregate-print-more : tie.Need-slice-aggregate-print-more
 slice-aggregate-print-more c = search needs
@@ -60,8 +60,8 @@ print-pair-spec =
     slice-aggregate-write-3
     write-requires
     array-share-prefix-out
-    slice-aggregate-print-bytes
-    print-bytes-requires
+    slice-aggregate-write-all
+    write-all-requires
     slice-aggregate-print-more
     print-more-requires
     returns)

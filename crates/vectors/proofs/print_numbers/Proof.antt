@@ -2,17 +2,17 @@
 use Prim.Native.Nat.{_≤_, _-_}
 use lib.ListN.{length}
 use borrow.Author.Needs.{needs}
-use Rattle.vectors.proofs.pairs.print_numbers.Statement.{statement}
-use Rattle.vectors.proofs.pairs.print_numbers.Tie as tie
+use Rattle.vectors.proofs.print_numbers.Statement.{statement}
+use Rattle.vectors.proofs.print_numbers.Tie as tie
 
 abbrev Inv-loop : tie.InvT-loop
-Inv-loop word s i₀ i = i ≤ length s
+Inv-loop word s i₀ t4 i = i ≤ length s
 
 abbrev μ-loop : tie.MeasureT-loop
-μ-loop word s i₀ i = length s - i
+μ-loop word s i₀ t4 i = length s - i
 
-print-bytes-requires : tie.Need-print-bytes-requires Inv-loop μ-loop
-print-bytes-requires c κs = search needs
+write-all-requires : tie.Need-write-all-requires Inv-loop μ-loop
+write-all-requires c κs = search needs
 
 print-next-requires : tie.Need-print-next-requires Inv-loop μ-loop
 print-next-requires c κs = search needs
@@ -38,8 +38,11 @@ loop-less c = search needs
 loop-again : tie.Need-loop-again Inv-loop μ-loop
 loop-again c = search needs
 
-print-end-requires : tie.Need-print-end-requires Inv-loop μ-loop
-print-end-requires c κs = search needs
+slice-aggregate-write-all : tie.Need-slice-aggregate-write-all Inv-loop μ-loop
+slice-aggregate-write-all c = search needs
+
+write-all-requires-2 : tie.Need-write-all-requires-2 Inv-loop μ-loop
+write-all-requires-2 c κs = search needs
 
 returns : tie.Need-returns Inv-loop μ-loop
 returns c = search needs
@@ -50,7 +53,7 @@ print-numbers-spec =
     (tie.spec
     Inv-loop
     μ-loop
-    print-bytes-requires
+    write-all-requires
     print-next-requires
     loop-holds
     shared-slice-read-wide
@@ -59,5 +62,6 @@ print-numbers-spec =
     add-i
     loop-less
     loop-again
-    print-end-requires
+    slice-aggregate-write-all
+    write-all-requires-2
     returns)
