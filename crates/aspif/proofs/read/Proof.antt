@@ -31,7 +31,10 @@ same-length c = search needs
 returns-2 : tie.Need-returns-2
 unfolding statements plan
 returns-2 c =
-    (rw (← (c .before .before .before .before .before .before .before .first-line .ensures), c .before .before .before .before .before .a .given .1) (c .before .before .lines .ensures .0), (rw (← (c .before .before .before .before .before .before .before .first-line .ensures), c .before .before .before .before .before .a .given .1) (c .before .before .lines .ensures .1 .0), c .before .before .lines .ensures .1 .1))
+    let first-line = c .before .before .before .before .before .before .before .first-line in
+    let the-a = c .before .before .before .before .before .a in
+    let lines = c .before .before .lines in
+    (rw (← (first-line .ensures), the-a .given .1) (lines .ensures .0), (rw (← (first-line .ensures), the-a .given .1) (lines .ensures .1 .0), lines .ensures .1 .1))
 
 pub read-spec : {M : Type 1} → statement M
 read-spec =

@@ -66,14 +66,20 @@ loop-less c = omega arith
 
 loop-again : tie.Need-loop-again Inv-loop μ-loop
 loop-again c =
-    let u = c .before .before .before .before .before .before .before .before .before .before .before .before .before .before .before .before .before .pre in
-    let l = c .before .before .before .before .before .before .before .before .before .before .before .before .loop in
-    let h = c .before .before .before .before .before .before .before .before .before .before .before .loop-test .taken in (
+    let pre = c .before .before .before .before .before .before .before .before .before .before .before .before .before .before .before .before .before .pre in
+    let args = c .before .before .before .before .before .before .before .before .before .before .before .before .before .before .before .before .before .args in
+    let loop = c .before .before .before .before .before .before .before .before .before .before .before .before .loop in
+    let loop-test = c .before .before .before .before .before .before .before .before .before .before .before .loop-test in
+    let relax-arg = c .before .before .before .before .before .before .before .before .relax-arg in
+    let relax = c .before .before .before .before .before .relax in
+    let u = pre in
+    let l = loop in
+    let h = loop-test .taken in (
       omega arith,
-      λ r b v. stepped _ _ _ r _ _ (c .if1 .last) _ _ _ _ (c .before .before .before .before .before .relax .result) _
+      λ r b v. stepped _ _ _ r _ _ (c .if1 .last) _ _ _ _ (relax .result) _
           (l .inv .1 r b v) h (u .slices .named _ h .1)
-          (down-small (getD (c .before .before .before .before .before .before .before .before .before .before .before .before .before .before .before .before .before .args .ks .now) (l .i) (pos 0)) (record { sfits = c .before .before .before .before .before .before .before .before .relax-arg .given })) (back32 (record { sfits = c .before .before .before .before .before .before .before .before .relax-arg .given }))
-          (c .before .before .before .before .before .relax .ensures) (⊎-elim (λ w. inl (w .0 .taken, w .1)) (λ w. inr (w .0 .left, w .1)) (c .if1 .came)),
+          (down-small (getD (args .ks .now) (l .i) (pos 0)) (record { sfits = relax-arg .given })) (back32 (record { sfits = relax-arg .given }))
+          (relax .ensures) (⊎-elim (λ w. inl (w .0 .taken, w .1)) (λ w. inr (w .0 .left, w .1)) (c .if1 .came)),
     )
 
 same-length : tie.Need-same-length Inv-loop μ-loop

@@ -30,7 +30,11 @@ same-length : tie.Need-same-length Inv-loop μ-loop
 same-length c = rounded _ _ _ _ _ _ _ _ _ _ (c .before .before .before .before .before .before .before .before .before .loop .inv .1) (c .before .before .before .before .before .round .ensures) .times
 
 same-length-2 : tie.Need-same-length-2 Inv-loop μ-loop
-same-length-2 c = rounded _ _ _ _ _ _ _ _ _ _ (c .before .before .before .before .before .before .before .before .before .loop .inv .1) (c .before .before .before .before .before .round .ensures) .parents ∙ sym (c .before .before .before .before .before .before .before .before .before .before .before .before .before .before .pre .parents)
+same-length-2 c =
+    let pre = c .before .before .before .before .before .before .before .before .before .before .before .before .before .before .pre in
+    let loop = c .before .before .before .before .before .before .before .before .before .loop in
+    let round = c .before .before .before .before .before .round in
+    rounded _ _ _ _ _ _ _ _ _ _ (loop .inv .1) (round .ensures) .parents ∙ sym (pre .parents)
 
 returns : tie.Need-returns Inv-loop μ-loop
 returns c = inl (refl, quiet _ _ _ _ _ _ _ (rounded _ _ _ _ _ _ _ _ _ _ (c .before .before .before .before .before .before .before .before .before .loop .inv .1) (c .before .before .before .before .before .round .ensures)) (c .if1 .taken))

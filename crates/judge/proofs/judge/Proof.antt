@@ -42,7 +42,12 @@ same-length-2 : tie.Need-same-length-2
 same-length-2 c = search needs
 
 returns-4 : tie.Need-returns-4
-returns-4 c = pair-decides _ _ (record { bytes = c .before .before .before .before .before .before .before .before .before .before .before .before .if1 .left; places = c .before .before .before .before .before .before .before .before .before .before .before .if2 .left }) (c .before .before .before .before .before .before .before .before .before .before .if3 .left) (c .before .before .before .before .before .planned .ensures)
+returns-4 c =
+    let if1 = c .before .before .before .before .before .before .before .before .before .before .before .before .if1 in
+    let if2 = c .before .before .before .before .before .before .before .before .before .before .before .if2 in
+    let if3 = c .before .before .before .before .before .before .before .before .before .before .if3 in
+    let planned = c .before .before .before .before .before .planned in
+    pair-decides _ _ (record { bytes = if1 .left; places = if2 .left }) (if3 .left) (planned .ensures)
 
 slice-aggregate-planned-2 : tie.Need-slice-aggregate-planned-2
 slice-aggregate-planned-2 c = search needs
@@ -57,7 +62,12 @@ same-length-4 : tie.Need-same-length-4
 same-length-4 c = search needs
 
 returns-5 : tie.Need-returns-5
-returns-5 c = pair-decides _ _ (record { bytes = c .before .before .before .before .before .before .before .before .before .before .before .before .if1 .left; places = c .before .before .before .before .before .before .before .before .before .before .before .if2 .left }) (c .before .before .before .before .before .before .before .before .before .before .if3 .left) (c .before .before .before .before .before .planned2 .ensures)
+returns-5 c =
+    let if1 = c .before .before .before .before .before .before .before .before .before .before .before .before .if1 in
+    let if2 = c .before .before .before .before .before .before .before .before .before .before .before .if2 in
+    let if3 = c .before .before .before .before .before .before .before .before .before .before .if3 in
+    let planned2 = c .before .before .before .before .before .planned2 in
+    pair-decides _ _ (record { bytes = if1 .left; places = if2 .left }) (if3 .left) (planned2 .ensures)
 
 pub judge-spec : {M : Type 1} → statement M
 judge-spec =

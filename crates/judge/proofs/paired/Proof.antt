@@ -26,8 +26,10 @@ slice-aggregate-weighed c = search needs
 
 weighed-requires : tie.Need-weighed-requires
 weighed-requires c κs =
-    let e = rw (c .before .before .before .enum-told .given .1) at (c .before .before .before .before .before .before .candidate .ensures) in
-    (c .before .before .before .before .before .before .before .before .before .before .before .before .before .before .before .pre .0, (record { places = c .before .before .before .before .before .before .candidate .kept .1 .0 ∙ length-replicate {A = ℕ} 4097 0; none = zero-unmarked _ _ (sym e) }, c .before .before .before .before .before .before .before .before .before .before .before .before .before .before .before .pre .1))
+    let pre = c .before .before .before .before .before .before .before .before .before .before .before .before .before .before .before .pre in
+    let candidate = c .before .before .before .before .before .before .candidate in
+    let e = rw (c .before .before .before .enum-told .given .1) at (candidate .ensures) in
+    (pre .0, (record { places = candidate .kept .1 .0 ∙ length-replicate {A = ℕ} 4097 0; none = zero-unmarked _ _ (sym e) }, pre .1))
 
 same-length : tie.Need-same-length
 same-length c = search needs

@@ -60,8 +60,11 @@ same-length-2 c = search needs
 
 returns-2 : tie.Need-returns-2
 returns-2 c =
-    let e = rw (c .before .before .before .before .before .before .before .before .before .before .before .before .before .before .a .given .1) at (c .before .before .before .before .before .before .before .before .before .before .before .before .before .before .before .before .before .before .read .ensures .1 .0) in
-    let d = rw (c .before .enum-told2 .given .1) at (c .before .before .before .before .before .before .before .collect .ensures) in
+    let read = c .before .before .before .before .before .before .before .before .before .before .before .before .before .before .before .before .before .before .read in
+    let the-a = c .before .before .before .before .before .before .before .before .before .before .before .before .before .before .a in
+    let collect = c .before .before .before .before .before .before .before .collect in
+    let e = rw (the-a .given .1) at (read .ensures .1 .0) in
+    let d = rw (c .before .enum-told2 .given .1) at (collect .ensures) in
     unreadable _ _ (pair-unsound _ _ _ (sym e) _ _ (sym d)) (rw (c .refusal2 .ensures, c .before .enum-told2 .given .1))
 
 slice-aggregate-paired : tie.Need-slice-aggregate-paired
@@ -78,10 +81,15 @@ slice-aggregate-paired-4 c = search needs
 
 paired-requires : tie.Need-paired-requires
 paired-requires c κs =
-    let w = rw (c .before .before .before .before .before .before .before .before .before .before .before .before .before .before .before .before .before .before .before .before .before .a .given .1) at (c .before .before .before .before .before .before .before .before .before .before .before .before .before .before .before .before .before .before .before .before .before .before .before .before .before .read .ensures .1 .1) in
-    let d = rw (c .before .before .before .before .before .before .before .before .b .given .1) at (c .before .before .before .before .before .before .before .before .before .before .before .before .before .before .collect .ensures) in
-    let k = c .before .before .before .before .before .before .before .before .before .before .before .before .before .before .collect .kept in
-    (record { taped = w; short = omega (arith, c .before .before .before .before .before .before .before .before .before .before .before .before .before .before .before .before .before .before .before .before .before .before .before .before .before .read .kept .1 .0, c .before .before .before .before .before .before .before .before .before .before .before .before .before .before .before .before .before .before .before .before .before .before .before .before .before .before .before .before .before .before .before .before .pre .1); stating = record { small = w .small; stated = sym d; roomy = kept-room (k .1 .1 .0) (k .1 .1 .1 .0) (k .1 .1 .1 .1 .0) (k .1 .1 .1 .1 .1 .0) } }, c .before .before .before .before .before .before .before .before .before .before .before .before .before .before .before .before .before .before .before .before .before .before .before .before .before .before .before .before .before .before .before .before .pre .2)
+    let pre = c .before .before .before .before .before .before .before .before .before .before .before .before .before .before .before .before .before .before .before .before .before .before .before .before .before .before .before .before .before .before .before .before .pre in
+    let read = c .before .before .before .before .before .before .before .before .before .before .before .before .before .before .before .before .before .before .before .before .before .before .before .before .before .read in
+    let the-a = c .before .before .before .before .before .before .before .before .before .before .before .before .before .before .before .before .before .before .before .before .before .a in
+    let collect = c .before .before .before .before .before .before .before .before .before .before .before .before .before .before .collect in
+    let the-b = c .before .before .before .before .before .before .before .before .b in
+    let w = rw (the-a .given .1) at (read .ensures .1 .1) in
+    let d = rw (the-b .given .1) at (collect .ensures) in
+    let k = collect .kept in
+    (record { taped = w; short = omega (arith, read .kept .1 .0, pre .1); stating = record { small = w .small; stated = sym d; roomy = kept-room (k .1 .1 .0) (k .1 .1 .1 .0) (k .1 .1 .1 .1 .0) (k .1 .1 .1 .1 .1 .0) } }, pre .2)
 
 same-length-3 : tie.Need-same-length-3
 same-length-3 c = search needs
@@ -94,9 +102,14 @@ same-length-5 c = search needs
 
 returns-3 : tie.Need-returns-3
 returns-3 c =
-    let e = rw (c .before .before .before .before .before .before .before .before .before .before .before .before .before .before .before .before .before .before .before .before .before .before .before .before .before .before .a .given .1) at (c .before .before .before .before .before .before .before .before .before .before .before .before .before .before .before .before .before .before .before .before .before .before .before .before .before .before .before .before .before .before .read .ensures .1 .0) in
-    let d = rw (c .before .before .before .before .before .before .before .before .before .before .before .before .before .b .given .1) at (c .before .before .before .before .before .before .before .before .before .before .before .before .before .before .before .before .before .before .before .collect .ensures) in
-    rw (pair-goes _ _ _ (sym e) _ (sym d)) (c .before .before .before .before .paired .ensures)
+    let read = c .before .before .before .before .before .before .before .before .before .before .before .before .before .before .before .before .before .before .before .before .before .before .before .before .before .before .before .before .before .before .read in
+    let the-a = c .before .before .before .before .before .before .before .before .before .before .before .before .before .before .before .before .before .before .before .before .before .before .before .before .before .before .a in
+    let collect = c .before .before .before .before .before .before .before .before .before .before .before .before .before .before .before .before .before .before .before .collect in
+    let the-b = c .before .before .before .before .before .before .before .before .before .before .before .before .before .b in
+    let paired = c .before .before .before .before .paired in
+    let e = rw (the-a .given .1) at (read .ensures .1 .0) in
+    let d = rw (the-b .given .1) at (collect .ensures) in
+    rw (pair-goes _ _ _ (sym e) _ (sym d)) (paired .ensures)
 
 pub planned-spec : {M : Type 1} → statement M
 planned-spec =

@@ -46,9 +46,14 @@ same-length-2 c = search needs
 
 returns : tie.Need-returns
 returns c =
-    let p = c .before .before .before .before .before .before .before .before .before .before .before .before .before .before .before .before .before .before .before .before .before .pre .0 in
-    let w = rw (c .before .before .before .before .before .before .before .enum-told .given .1) at (c .before .before .before .before .before .before .before .before .before .smallest-unfounded .ensures) in
-    founded (founded-as meaning.founded (p .stating) (c .before .before .before .before .before .before .before .before .before .before .before .before .before .before .before .before .before .before .before .before .before .pre .1 .0) (c .before .before .before .before .before .before .before .before .before .before .before .before .externals .ensures) w) (c .before .before .before .before .timed .ensures _ (p .stating))
+    let pre = c .before .before .before .before .before .before .before .before .before .before .before .before .before .before .before .before .before .before .before .before .before .pre in
+    let externals = c .before .before .before .before .before .before .before .before .before .before .before .before .externals in
+    let smallest-unfounded = c .before .before .before .before .before .before .before .before .before .smallest-unfounded in
+    let enum-told = c .before .before .before .before .before .before .before .enum-told in
+    let timed = c .before .before .before .before .timed in
+    let p = pre .0 in
+    let w = rw (enum-told .given .1) at (smallest-unfounded .ensures) in
+    founded (founded-as meaning.founded (p .stating) (pre .1 .0) (externals .ensures) w) (timed .ensures _ (p .stating))
 
 cast-place : tie.Need-cast-place
 cast-place c = search needs
@@ -58,9 +63,12 @@ refuse-requires c κs = search needs
 
 returns-2 : tie.Need-returns-2
 returns-2 c =
-    let p = c .before .before .before .before .before .before .before .before .before .before .before .before .before .before .before .before .before .pre .0 in
-    let w = rw (c .before .before .before .a .given .1) at (c .before .before .before .before .before .smallest-unfounded .ensures) in
-    unfounded _ (founded-as (meaning.unfoundedAt _) (p .stating) (c .before .before .before .before .before .before .before .before .before .before .before .before .before .before .before .before .before .pre .1 .0) (c .before .before .before .before .before .before .before .before .externals .ensures) w) (rw (c .refuse .ensures))
+    let pre = c .before .before .before .before .before .before .before .before .before .before .before .before .before .before .before .before .before .pre in
+    let externals = c .before .before .before .before .before .before .before .before .externals in
+    let smallest-unfounded = c .before .before .before .before .before .smallest-unfounded in
+    let p = pre .0 in
+    let w = rw (c .before .before .before .a .given .1) at (smallest-unfounded .ensures) in
+    unfounded _ (founded-as (meaning.unfoundedAt _) (p .stating) (pre .1 .0) (externals .ensures) w) (rw (c .refuse .ensures))
 
 pub supported-spec : {M : Type 1} → statement M
 supported-spec =

@@ -23,23 +23,35 @@ cast-put-two-2 : tie.Need-cast-put-two-2
 cast-put-two-2 c = search needs
 
 put-two-requires : tie.Need-put-two-requires
-put-two-requires c κs = rw (c .before .before .before .before .before .before .before .word-at .ensures, c .before .before .before .before .before .before .word-at2 .ensures) (counts-fit _ _ (c .before .before .before .before .before .before .before .before .before .before .pre .1) (c .before .before .before .put .ensures))
+put-two-requires c κs =
+    let pre = c .before .before .before .before .before .before .before .before .before .before .pre in
+    let word-at = c .before .before .before .before .before .before .before .word-at in
+    let word-at2 = c .before .before .before .before .before .before .word-at2 in
+    rw (word-at .ensures, word-at2 .ensures) (counts-fit _ _ (pre .1) (c .before .before .before .put .ensures))
 
 cast-put-records : tie.Need-cast-put-records
 cast-put-records c = search needs
 
 put-records-requires : tie.Need-put-records-requires
 put-records-requires c κs =
-    let counts = rw (c .before .before .before .before .before .before .before .before .before .before .before .word-at .ensures, c .before .before .before .before .before .before .before .before .before .before .word-at2 .ensures) at (c .before .before .before .put-two .ensures) in
-    rw (c .before .before .before .before .before .before .before .before .before .before .before .word-at .ensures) (c .before .before .before .before .before .before .before .before .before .before .before .before .before .before .pre .0, records-fit _ _ (c .before .before .before .before .before .before .before .before .before .before .before .before .before .before .pre .1) (c .before .before .before .before .before .before .before .put .ensures) counts)
+    let pre = c .before .before .before .before .before .before .before .before .before .before .before .before .before .before .pre in
+    let word-at = c .before .before .before .before .before .before .before .before .before .before .before .word-at in
+    let word-at2 = c .before .before .before .before .before .before .before .before .before .before .word-at2 in
+    let put = c .before .before .before .before .before .before .before .put in
+    let counts = rw (word-at .ensures, word-at2 .ensures) at (c .before .before .before .put-two .ensures) in
+    rw (word-at .ensures) (pre .0, records-fit _ _ (pre .1) (put .ensures) counts)
 
 same-length : tie.Need-same-length
 same-length c = search needs
 
 returns : tie.Need-returns
 returns c =
-    let counts = rw (c .before .before .before .before .before .before .before .before .before .before .before .before .before .before .word-at .ensures, c .before .before .before .before .before .before .before .before .before .before .before .before .before .word-at2 .ensures) at (c .before .before .before .before .before .before .put-two .ensures) in
-    accepted-put _ _ (c .before .before .before .before .before .before .before .before .before .before .put .ensures) counts (rw (c .before .before .before .before .before .before .before .before .before .before .before .before .before .before .word-at .ensures) at (c .before .before .put-records .ensures))
+    let word-at = c .before .before .before .before .before .before .before .before .before .before .before .before .before .before .word-at in
+    let word-at2 = c .before .before .before .before .before .before .before .before .before .before .before .before .before .word-at2 in
+    let put = c .before .before .before .before .before .before .before .before .before .before .put in
+    let put-two = c .before .before .before .before .before .before .put-two in
+    let counts = rw (word-at .ensures, word-at2 .ensures) at (put-two .ensures) in
+    accepted-put _ _ (put .ensures) counts (rw (word-at .ensures) at (c .before .before .put-records .ensures))
 
 pub put-accepted-spec : {M : Type 1} → statement M
 put-accepted-spec =

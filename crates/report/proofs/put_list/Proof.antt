@@ -27,19 +27,34 @@ put-number-requires : tie.Need-put-number-requires
 put-number-requires c κs = rw (c .wide .ensures) (fits-first _ (fits-first _ (rw (list-some _ (c .before .before .before .if1 .left)) at (c .before .before .before .before .before .before .pre))))
 
 put-others-requires : tie.Need-put-others-requires
-put-others-requires c κs = fits-second (c .before .before .before .put-number .ensures) _ (fits-first _ (rw (list-some _ (c .before .before .before .before .before .before .before .if1 .left), ← c .before .before .before .before .wide .ensures) at (c .before .before .before .before .before .before .before .before .before .before .pre)))
+put-others-requires c κs =
+    let pre = c .before .before .before .before .before .before .before .before .before .before .pre in
+    let if1 = c .before .before .before .before .before .before .before .if1 in
+    let wide = c .before .before .before .before .wide in
+    fits-second (c .before .before .before .put-number .ensures) _ (fits-first _ (rw (list-some _ (if1 .left), ← wide .ensures) at pre))
 
 slice-aggregate-put-2 : tie.Need-slice-aggregate-put-2
 slice-aggregate-put-2 c = search needs
 
 put-requires-2 : tie.Need-put-requires-2
-put-requires-2 c κs = fits-second (put-both (c .before .before .before .before .before .before .before .before .put-number .ensures) (c .before .before .before .before .put-others .ensures)) _ (rw (list-some _ (c .before .before .before .before .before .before .before .before .before .before .before .before .if1 .left), ← c .before .before .before .before .before .before .before .before .before .wide .ensures) at (c .before .before .before .before .before .before .before .before .before .before .before .before .before .before .before .pre))
+put-requires-2 c κs =
+    let pre = c .before .before .before .before .before .before .before .before .before .before .before .before .before .before .before .pre in
+    let if1 = c .before .before .before .before .before .before .before .before .before .before .before .before .if1 in
+    let wide = c .before .before .before .before .before .before .before .before .before .wide in
+    let put-number = c .before .before .before .before .before .before .before .before .put-number in
+    let put-others = c .before .before .before .before .put-others in
+    fits-second (put-both (put-number .ensures) (put-others .ensures)) _ (rw (list-some _ (if1 .left), ← wide .ensures) at pre)
 
 same-length-2 : tie.Need-same-length-2
 same-length-2 c = search needs
 
 returns-2 : tie.Need-returns-2
-returns-2 c = rw (list-some _ (c .before .before .before .before .before .before .before .before .before .before .before .before .before .before .before .if1 .left), ← c .before .before .before .before .before .before .before .before .before .before .before .before .wide .ensures) (put-both (put-both (c .before .before .before .before .before .before .before .before .before .before .before .put-number .ensures) (c .before .before .before .before .before .before .before .put-others .ensures)) (c .before .before .put2 .ensures))
+returns-2 c =
+    let if1 = c .before .before .before .before .before .before .before .before .before .before .before .before .before .before .before .if1 in
+    let wide = c .before .before .before .before .before .before .before .before .before .before .before .before .wide in
+    let put-number = c .before .before .before .before .before .before .before .before .before .before .before .put-number in
+    let put-others = c .before .before .before .before .before .before .before .put-others in
+    rw (list-some _ (if1 .left), ← wide .ensures) (put-both (put-both (put-number .ensures) (put-others .ensures)) (c .before .before .put2 .ensures))
 
 pub put-list-spec : {M : Type 1} → statement M
 put-list-spec =

@@ -30,7 +30,10 @@ word-at-requires-2 : tie.Need-word-at-requires-2 Inv-loop μ-loop
 word-at-requires-2 c κs = search needs
 
 put-record-requires : tie.Need-put-record-requires Inv-loop μ-loop
-put-record-requires c κs = rw (c .before .before .word-at .ensures, c .before .word-at2 .ensures) (fits-first _ (rw (records-more _ _ _ (c .before .before .before .loop-test .taken)) at (rest-fits (c .before .before .before .before .loop .inv .0) (c .before .before .before .before .before .before .before .pre .1))))
+put-record-requires c κs =
+    let pre = c .before .before .before .before .before .before .before .pre in
+    let loop = c .before .before .before .before .loop in
+    rw (c .before .before .word-at .ensures, c .before .word-at2 .ensures) (fits-first _ (rw (records-more _ _ _ (c .before .before .before .loop-test .taken)) at (rest-fits (loop .inv .0) (pre .1))))
 
 add-p : tie.Need-add-p Inv-loop μ-loop
 add-p c = search needs
@@ -42,7 +45,12 @@ loop-less : tie.Need-loop-less Inv-loop μ-loop
 loop-less c = search needs
 
 loop-again : tie.Need-loop-again Inv-loop μ-loop
-loop-again c = (rest-step (c .before .before .before .before .before .before .before .loop .inv .0) _ _ (rw (c .before .before .before .before .before .word-at .ensures, c .before .before .before .before .word-at2 .ensures) (records-more _ _ _ (c .before .before .before .before .before .before .loop-test .taken))) (c .before .before .put-record .ensures), omega (arith, c .before .before .before .before .before .before .before .loop .inv .1, c .before .before .before .before .before .before .loop-test .taken))
+loop-again c =
+    let loop = c .before .before .before .before .before .before .before .loop in
+    let loop-test = c .before .before .before .before .before .before .loop-test in
+    let word-at = c .before .before .before .before .before .word-at in
+    let word-at2 = c .before .before .before .before .word-at2 in
+    (rest-step (loop .inv .0) _ _ (rw (word-at .ensures, word-at2 .ensures) (records-more _ _ _ (loop-test .taken))) (c .before .before .put-record .ensures), omega (arith, loop .inv .1, loop-test .taken))
 
 same-length : tie.Need-same-length Inv-loop μ-loop
 same-length c = c .before .loop .inv .0 .size

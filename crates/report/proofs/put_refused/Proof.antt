@@ -33,18 +33,30 @@ returns c = refused-put _ _ _ _ (c .before .before .before .before .before .befo
 
 put-list-requires : tie.Need-put-list-requires
 put-list-requires c κs =
+    let args = c .before .before .before .before .before .before .before .before .before .before .before .before .before .before .before .before .args in
+    let pre = c .before .before .before .before .before .before .before .before .before .before .before .before .before .before .before .before .pre in
+    let put = c .before .before .before .before .before .before .before .before .before .before .before .put in
+    let number = c .before .before .before .before .before .before .before .number in
+    let put-two = c .before .before .before .before .before .before .put-two in
     let k = rw (c .before .before .before .number2 .ensures) at (c .before .before .if1 .left) in
-    let t = rw (c .before .before .before .before .before .before .before .number .ensures) at (c .before .before .before .before .before .before .put-two .ensures) in
-    rw (take-all (c .before .before .before .before .before .before .before .before .before .before .before .before .before .before .before .before .args .refusal .place) (c .before .before .before .before .before .before .before .before .before .before .before .before .before .before .before .before .args .cycle .now) (omega (arith, c .before .if2 .taken))) at (list-fits _ _ _ _ (c .before .before .before .before .before .before .before .before .before .before .before .before .before .before .before .before .pre) (c .before .before .before .before .before .before .before .before .before .before .before .put .ensures) k t)
+    let t = rw (number .ensures) at (put-two .ensures) in
+    rw (take-all (args .refusal .place) (args .cycle .now) (omega (arith, c .before .if2 .taken))) at (list-fits _ _ _ _ pre (put .ensures) k t)
 
 same-length-2 : tie.Need-same-length-2
 same-length-2 c = search needs
 
 returns-2 : tie.Need-returns-2
 returns-2 c =
-    let k = rw (c .before .before .before .before .before .before .number2 .ensures) at (c .before .before .before .before .before .if1 .left) in
-    let t = rw (c .before .before .before .before .before .before .before .before .before .before .number .ensures) at (c .before .before .before .before .before .before .before .before .before .put-two .ensures) in
-    list-put _ _ _ _ (c .before .before .before .before .before .before .before .before .before .before .before .before .before .before .put .ensures) t k (rw (take-all (c .before .before .before .before .before .before .before .before .before .before .before .before .before .before .before .before .before .before .before .args .refusal .place) (c .before .before .before .before .before .before .before .before .before .before .before .before .before .before .before .before .before .before .before .args .cycle .now) (omega (arith, c .before .before .before .before .if2 .taken))) (c .before .before .put-list .ensures))
+    let args = c .before .before .before .before .before .before .before .before .before .before .before .before .before .before .before .before .before .before .before .args in
+    let put = c .before .before .before .before .before .before .before .before .before .before .before .before .before .before .put in
+    let number = c .before .before .before .before .before .before .before .before .before .before .number in
+    let put-two = c .before .before .before .before .before .before .before .before .before .put-two in
+    let number2 = c .before .before .before .before .before .before .number2 in
+    let if1 = c .before .before .before .before .before .if1 in
+    let if2 = c .before .before .before .before .if2 in
+    let k = rw (number2 .ensures) at (if1 .left) in
+    let t = rw (number .ensures) at (put-two .ensures) in
+    list-put _ _ _ _ (put .ensures) t k (rw (take-all (args .refusal .place) (args .cycle .now) (omega (arith, if2 .taken))) (c .before .before .put-list .ensures))
 
 slice-aggregate-put-list : tie.Need-slice-aggregate-put-list
 slice-aggregate-put-list c = sym (length-take-le _ _ (c .before .before .if2 .left))

@@ -25,18 +25,25 @@ cast-a : tie.Need-cast-a
 cast-a c = omega (arith, c .shared-slice-known2 .given (c .before .before .before .before .before .args .at + 1))
 
 mark-requires : tie.Need-mark-requires
-mark-requires c κs = omega (arith, atom (c .before .before .before .before .before .before .args .tape .now) (c .before .before .before .before .before .before .args .at) (c .before .before .before .word-at .ensures .0) (c .before .before .if1 .left) (c .before .before .before .before .before .before .pre .0) (c .before .before .before .before .before .before .pre .1 .0), c .before .before .before .before .before .before .pre .1 .1)
+mark-requires c κs =
+    let args = c .before .before .before .before .before .before .args in
+    let pre = c .before .before .before .before .before .before .pre in
+    omega (arith, atom (args .tape .now) (args .at) (c .before .before .before .word-at .ensures .0) (c .before .before .if1 .left) (pre .0) (pre .1 .0), pre .1 .1)
 
 same-length : tie.Need-same-length
 same-length c = search needs
 
 returns-2 : tie.Need-returns-2
 returns-2 c =
-    let t = c .before .before .before .before .before .before .before .before .before .args .tape .now in
-    let q = c .before .before .before .before .before .before .before .before .before .args .at in
-    let w = c .before .before .before .before .before .before .word-at .ensures .0 in
-    one-added t q w (c .before .before .before .before .before .if1 .left) (c .before .before .before .before .before .before .before .before .before .pre .0)
-    (omega (arith, atom t q w (c .before .before .before .before .before .if1 .left) (c .before .before .before .before .before .before .before .before .before .pre .0) (c .before .before .before .before .before .before .before .before .before .pre .1 .0), c .before .before .before .before .before .before .before .before .before .pre .1 .1)) (c .before .before .mark .ensures)
+    let args = c .before .before .before .before .before .before .before .before .before .args in
+    let pre = c .before .before .before .before .before .before .before .before .before .pre in
+    let word-at = c .before .before .before .before .before .before .word-at in
+    let if1 = c .before .before .before .before .before .if1 in
+    let t = args .tape .now in
+    let q = args .at in
+    let w = word-at .ensures .0 in
+    one-added t q w (if1 .left) (pre .0)
+    (omega (arith, atom t q w (if1 .left) (pre .0) (pre .1 .0), pre .1 .1)) (c .before .before .mark .ensures)
 
 pub add-single-spec : {M : Type 1} → statement M
 add-single-spec =

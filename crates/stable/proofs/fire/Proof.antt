@@ -28,7 +28,10 @@ same-length : tie.Need-same-length
 same-length c = search needs
 
 returns : tie.Need-returns
-returns c = idle (c .before .before .before .before .before .before .before .pre .0) (c .before .before .before .word-at .ensures .0) (c .before .before .before .before .before .before .before .args .x .now) (c .before .before .before .before .before .before .before .args .found .now) (c .before .body-true .ensures) (not-true _ (c .if1 .taken))
+returns c =
+    let pre = c .before .before .before .before .before .before .before .pre in
+    let args = c .before .before .before .before .before .before .before .args in
+    idle (pre .0) (c .before .before .before .word-at .ensures .0) (args .x .now) (args .found .now) (c .before .body-true .ensures) (not-true _ (c .if1 .taken))
 
 add-if2 : tie.Need-add-if2
 add-if2 c = omega (arith, c .before .before .before .before .before .before .before .pre .0 .inside)
@@ -40,22 +43,40 @@ shared-slice-read-if2 : tie.Need-shared-slice-read-if2
 shared-slice-read-if2 c = omega (arith, c .before .before .before .before .before .before .before .before .pre .0 .inside)
 
 add-chosen-requires : tie.Need-add-chosen-requires
-add-chosen-requires c κs = (heads-inside (c .before .before .before .before .before .before .before .before .before .before .pre .0), (choice-small (c .before .before .before .before .before .before .before .before .before .before .pre .0) (c .before .if2 .taken), (c .before .before .before .before .before .before .before .before .before .before .pre .1 .0, c .before .before .before .before .before .before .before .before .before .before .pre .1 .1)))
+add-chosen-requires c κs =
+    let pre = c .before .before .before .before .before .before .before .before .before .before .pre in
+    (heads-inside (pre .0), (choice-small (pre .0) (c .before .if2 .taken), (pre .1 .0, pre .1 .1)))
 
 same-length-2 : tie.Need-same-length-2
 same-length-2 c = search needs
 
 returns-2 : tie.Need-returns-2
-returns-2 c = chosen (c .before .before .before .before .before .before .before .before .before .before .before .before .before .pre .0) (c .before .before .before .before .before .before .before .before .before .word-at .ensures .0) (c .before .before .before .before .before .before .before .before .before .before .before .before .before .args .x .now) (c .before .before .before .before .before .before .before .before .before .before .before .before .before .args .found .now) (c .before .before .before .before .before .before .before .body-true .ensures) (not-false _ (c .before .before .before .before .before .before .if1 .left)) (c .before .before .before .before .if2 .taken) (c .before .before .add-chosen .ensures)
+returns-2 c =
+    let pre = c .before .before .before .before .before .before .before .before .before .before .before .before .before .pre in
+    let args = c .before .before .before .before .before .before .before .before .before .before .before .before .before .args in
+    let word-at = c .before .before .before .before .before .before .before .before .before .word-at in
+    let body-true = c .before .before .before .before .before .before .before .body-true in
+    let if1 = c .before .before .before .before .before .before .if1 in
+    let if2 = c .before .before .before .before .if2 in
+    chosen (pre .0) (word-at .ensures .0) (args .x .now) (args .found .now) (body-true .ensures) (not-false _ (if1 .left)) (if2 .taken) (c .before .before .add-chosen .ensures)
 
 add-single-requires : tie.Need-add-single-requires
-add-single-requires c κs = (heads-inside (c .before .before .before .before .before .before .before .before .before .before .pre .0), (plain-small (c .before .before .before .before .before .before .before .before .before .before .pre .0) (c .before .if2 .left), c .before .before .before .before .before .before .before .before .before .before .pre .1 .1))
+add-single-requires c κs =
+    let pre = c .before .before .before .before .before .before .before .before .before .before .pre in
+    (heads-inside (pre .0), (plain-small (pre .0) (c .before .if2 .left), pre .1 .1))
 
 same-length-3 : tie.Need-same-length-3
 same-length-3 c = search needs
 
 returns-3 : tie.Need-returns-3
-returns-3 c = plain (c .before .before .before .before .before .before .before .before .before .before .before .before .before .pre .0) (c .before .before .before .before .before .before .before .before .before .word-at .ensures .0) (c .before .before .before .before .before .before .before .before .before .before .before .before .before .args .x .now) (c .before .before .before .before .before .before .before .before .before .before .before .before .before .args .found .now) (c .before .before .before .before .before .before .before .body-true .ensures) (not-false _ (c .before .before .before .before .before .before .if1 .left)) (c .before .before .before .before .if2 .left) (c .before .before .add-single .ensures)
+returns-3 c =
+    let pre = c .before .before .before .before .before .before .before .before .before .before .before .before .before .pre in
+    let args = c .before .before .before .before .before .before .before .before .before .before .before .before .before .args in
+    let word-at = c .before .before .before .before .before .before .before .before .before .word-at in
+    let body-true = c .before .before .before .before .before .before .before .body-true in
+    let if1 = c .before .before .before .before .before .before .if1 in
+    let if2 = c .before .before .before .before .if2 in
+    plain (pre .0) (word-at .ensures .0) (args .x .now) (args .found .now) (body-true .ensures) (not-false _ (if1 .left)) (if2 .left) (c .before .before .add-single .ensures)
 
 pub fire-spec : {M : Type 1} → statement M
 fire-spec =

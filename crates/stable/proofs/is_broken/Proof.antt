@@ -41,10 +41,19 @@ cast-a : tie.Need-cast-a
 cast-a c = omega (arith, c .shared-slice-known4 .given (c .before .before .before .before .before .before .before .args .p + 4))
 
 shared-slice-read-if3 : tie.Need-shared-slice-read-if3
-shared-slice-read-if3 c = omega (arith, head-atom (c .before .before .before .before .before .before .before .before .pre .0) (isMarked (c .before .before .before .before .before .before .before .before .args .x .now)) (c .before .before .before .before .if1 .left) (c .before .before .before .word-at .ensures .0) (c .before .before .if2 .taken), c .before .before .before .before .before .before .before .before .pre .1)
+shared-slice-read-if3 c =
+    let pre = c .before .before .before .before .before .before .before .before .pre in
+    let args = c .before .before .before .before .before .before .before .before .args in
+    let if1 = c .before .before .before .before .if1 in
+    omega (arith, head-atom (pre .0) (isMarked (args .x .now)) (if1 .left) (c .before .before .before .word-at .ensures .0) (c .before .before .if2 .taken), pre .1)
 
 returns-2 : tie.Need-returns-2
-returns-2 c = head-whole (c .before .before .before .before .before .before .before .before .before .pre .0) (isMarked (c .before .before .before .before .before .before .before .before .before .args .x .now)) (c .before .before .before .before .before .if1 .left) (c .before .before .before .before .word-at .ensures .0) (c .before .before .before .if2 .taken) (eq-eqb _ 1 (c .if3 .taken))
+returns-2 c =
+    let pre = c .before .before .before .before .before .before .before .before .before .pre in
+    let args = c .before .before .before .before .before .before .before .before .before .args in
+    let if1 = c .before .before .before .before .before .if1 in
+    let word-at = c .before .before .before .before .word-at in
+    head-whole (pre .0) (isMarked (args .x .now)) (if1 .left) (word-at .ensures .0) (c .before .before .before .if2 .taken) (eq-eqb _ 1 (c .if3 .taken))
 
 add-b : tie.Need-add-b
 add-b c = omega (arith, c .before .before .before .before .before .before .pre .0 .inside)
@@ -57,9 +66,13 @@ body-true-requires c κs = (literals-at (c .before .before .before .before .befo
 
 returns-3 : tie.Need-returns-3
 returns-3 c =
+    let pre = c .before .before .before .before .before .before .before .pre in
+    let args = c .before .before .before .before .before .before .before .args in
+    let if1 = c .before .before .before .if1 in
+    let word-at = c .before .before .word-at in
     ⊎-elim
-    (λ w. head-broken (c .before .before .before .before .before .before .before .pre .0) (isMarked (c .before .before .before .before .before .before .before .args .x .now)) (c .before .before .before .if1 .left) (c .before .before .word-at .ensures .0) (w .0 .taken) (ne-eqb _ 1 (w .3 .left)) (c .body-true .ensures))
-    (λ w. empty-broken (c .before .before .before .before .before .before .before .pre .0) (isMarked (c .before .before .before .before .before .before .before .args .x .now)) (c .before .before .before .if1 .left) (c .before .before .word-at .ensures .0) (w .left) (c .body-true .ensures))
+    (λ w. head-broken (pre .0) (isMarked (args .x .now)) (if1 .left) (word-at .ensures .0) (w .0 .taken) (ne-eqb _ 1 (w .3 .left)) (c .body-true .ensures))
+    (λ w. empty-broken (pre .0) (isMarked (args .x .now)) (if1 .left) (word-at .ensures .0) (w .left) (c .body-true .ensures))
     (c .before .if2 .came)
 
 pub is-broken-spec : {M : Type 1} → statement M

@@ -25,7 +25,10 @@ cast-p : tie.Need-cast-p Inv-loop μ-loop
 cast-p c = omega (arith, c .shared-slice-known4 .given (c .before .before .loop .i))
 
 fire-requires : tie.Need-fire-requires Inv-loop μ-loop
-fire-requires c κs = (rule-here (c .before .before .before .loop .inv) (c .before .before .before .before .before .before .before .before .pre .0) (c .before .before .loop-test .taken), (c .before .before .before .before .before .before .before .before .pre .1 .0, c .before .before .before .loop .inv .long))
+fire-requires c κs =
+    let pre = c .before .before .before .before .before .before .before .before .pre in
+    let loop = c .before .before .before .loop in
+    (rule-here (loop .inv) (pre .0) (c .before .before .loop-test .taken), (pre .1 .0, loop .inv .long))
 
 add-t : tie.Need-add-t Inv-loop μ-loop
 add-t c = omega (arith, few (c .before .before .before .before .before .before .loop .inv) (c .before .before .fire .ensures) (c .before .before .fire .kept .1 .1 .1 .0))

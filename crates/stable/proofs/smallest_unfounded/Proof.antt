@@ -22,7 +22,9 @@ slice-aggregate-least-2 : tie.Need-slice-aggregate-least-2
 slice-aggregate-least-2 c = search needs
 
 least-requires : tie.Need-least-requires
-least-requires c κs = (readable (c .before .before .before .list-rules .ensures) (ahead-of (c .before .before .before .before .before .before .before .before .pre .0)), (c .before .before .before .before .before .before .before .before .pre .1 .1 .0, (c .before .before .before .before .before .before .before .before .pre .1 .1 .1, length-replicate {A = ℕ} 4097 0)))
+least-requires c κs =
+    let pre = c .before .before .before .before .before .before .before .before .pre in
+    (readable (c .before .before .before .list-rules .ensures) (ahead-of (pre .0)), (pre .1 .1 .0, (pre .1 .1 .1, length-replicate {A = ℕ} 4097 0)))
 
 slice-aggregate-seek : tie.Need-slice-aggregate-seek
 slice-aggregate-seek c = search needs

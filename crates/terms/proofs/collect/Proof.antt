@@ -15,7 +15,9 @@ slice-aggregate-take-all-3 : tie.Need-slice-aggregate-take-all-3
 slice-aggregate-take-all-3 c = search needs
 
 take-all-requires : tie.Need-take-all-requires
-take-all-requires c κs = (c .before .before .before .before .before .before .before .before .before .before .before .pre .0, ((blank-zeros 1024, blank-zeros 1024, blank-zeros 4097), first-room 1024 4097 refl refl _ _ _ _ (c .before .before .before .before .before .before .before .before .before .before .before .pre .1)))
+take-all-requires c κs =
+    let pre = c .before .before .before .before .before .before .before .before .before .before .before .pre in
+    (pre .0, ((blank-zeros 1024, blank-zeros 1024, blank-zeros 4097), first-room 1024 4097 refl refl _ _ _ _ (pre .1)))
 
 same-length : tie.Need-same-length
 same-length c = search needs

@@ -48,7 +48,11 @@ returns-3 : tie.Need-returns-3
 returns-3 c = wrong-first _ _ _ _ _ (c .before .before .before .before .before .word-at .ensures) (c .before .before .before .before .word-at2 .ensures) (c .before .before .before .word-at3 .ensures) (c .before .before .word-at4 .ensures) (c .before .if2 .left) (c .if3 .taken)
 
 returns-4 : tie.Need-returns-4
-returns-4 c = wrong-second _ _ _ _ _ (c .before .before .before .before .before .before .word-at .ensures) (c .before .before .before .before .before .word-at2 .ensures) (c .before .before .before .before .word-at3 .ensures) (c .before .before .before .word-at4 .ensures) (c .before .before .if2 .left) (c .before .if3 .left) (c .if4 .taken)
+returns-4 c =
+    let word-at = c .before .before .before .before .before .before .word-at in
+    let word-at2 = c .before .before .before .before .before .word-at2 in
+    let word-at3 = c .before .before .before .before .word-at3 in
+    wrong-second _ _ _ _ _ (word-at .ensures) (word-at2 .ensures) (word-at3 .ensures) (c .before .before .before .word-at4 .ensures) (c .before .before .if2 .left) (c .before .if3 .left) (c .if4 .taken)
 
 records-within-requires : tie.Need-records-within-requires
 records-within-requires c κs = search needs
@@ -59,14 +63,25 @@ atoms-within-requires c κs = search needs
 returns-5 : tie.Need-returns-5
 unfolding recordsLeft atomsLeft
 returns-5 c =
+    let word-at = c .before .before .before .before .before .before .before .before .before .word-at in
+    let word-at2 = c .before .before .before .before .before .before .before .before .word-at2 in
+    let word-at3 = c .before .before .before .before .before .before .before .word-at3 in
+    let word-at4 = c .before .before .before .before .before .before .word-at4 in
+    let if2 = c .before .before .before .before .before .if2 in
+    let if3 = c .before .before .before .before .if3 in
     rw (← (c .before .before .records-within .ensures), c .before .if5 .taken) (c .atoms-within .ensures)
-    ∙ right-shape _ _ _ _ _ (c .before .before .before .before .before .before .before .before .before .word-at .ensures) (c .before .before .before .before .before .before .before .before .word-at2 .ensures) (c .before .before .before .before .before .before .before .word-at3 .ensures) (c .before .before .before .before .before .before .word-at4 .ensures) (c .before .before .before .before .before .if2 .left) (c .before .before .before .before .if3 .left) (c .before .before .before .if4 .left)
+    ∙ right-shape _ _ _ _ _ (word-at .ensures) (word-at2 .ensures) (word-at3 .ensures) (word-at4 .ensures) (if2 .left) (if3 .left) (c .before .before .before .if4 .left)
 
 returns-6 : tie.Need-returns-6
 unfolding recordsLeft atomsLeft
 returns-6 c =
+    let word-at = c .before .before .before .before .before .before .before .before .word-at in
+    let word-at2 = c .before .before .before .before .before .before .before .word-at2 in
+    let word-at3 = c .before .before .before .before .before .before .word-at3 in
+    let word-at4 = c .before .before .before .before .before .word-at4 in
+    let if2 = c .before .before .before .before .if2 in
     rw (← (c .before .records-within .ensures), c .if5 .left) at
-    (right-shape _ _ _ _ _ (c .before .before .before .before .before .before .before .before .word-at .ensures) (c .before .before .before .before .before .before .before .word-at2 .ensures) (c .before .before .before .before .before .before .word-at3 .ensures) (c .before .before .before .before .before .word-at4 .ensures) (c .before .before .before .before .if2 .left) (c .before .before .before .if3 .left) (c .before .before .if4 .left))
+    (right-shape _ _ _ _ _ (word-at .ensures) (word-at2 .ensures) (word-at3 .ensures) (word-at4 .ensures) (if2 .left) (c .before .before .before .if3 .left) (c .before .before .if4 .left))
 
 pub is-table-spec : {M : Type 1} → statement M
 is-table-spec =

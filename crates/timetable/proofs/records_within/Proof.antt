@@ -35,7 +35,11 @@ returns-2 c = records-high _ _ _ _ _ _ (c .before .before .before .before .loop-
 
 returns-3 : tie.Need-returns-3 Inv-loop μ-loop
 unfolding recordsLeft
-returns-3 c = records-late _ _ _ _ _ _ (c .before .before .before .before .before .loop-test .taken) (c .before .before .before .before .word-at .ensures) (c .before .before .before .word-at2 .ensures) (c .before .before .if1 .left) (c .before .if2 .left) (c .if3 .taken) ∙ c .before .before .before .before .before .before .loop .inv .0
+returns-3 c =
+    let loop = c .before .before .before .before .before .before .loop in
+    let loop-test = c .before .before .before .before .before .loop-test in
+    let word-at = c .before .before .before .before .word-at in
+    records-late _ _ _ _ _ _ (loop-test .taken) (word-at .ensures) (c .before .before .before .word-at2 .ensures) (c .before .before .if1 .left) (c .before .if2 .left) (c .if3 .taken) ∙ loop .inv .0
 
 add-low : tie.Need-add-low Inv-loop μ-loop
 add-low c = search needs
@@ -50,7 +54,11 @@ loop-less : tie.Need-loop-less Inv-loop μ-loop
 loop-less c = search needs
 
 loop-again : tie.Need-loop-again Inv-loop μ-loop
-loop-again c = (records-on _ _ _ _ _ _ (c .before .before .before .before .before .loop-test .taken) (c .before .before .before .before .word-at .ensures) (c .before .before .before .word-at2 .ensures) (c .before .before .if1 .left) (c .before .if2 .left) (c .if3 .left) ∙ c .before .before .before .before .before .before .loop .inv .0, search needs)
+loop-again c =
+    let loop = c .before .before .before .before .before .before .loop in
+    let loop-test = c .before .before .before .before .before .loop-test in
+    let word-at = c .before .before .before .before .word-at in
+    (records-on _ _ _ _ _ _ (loop-test .taken) (word-at .ensures) (c .before .before .before .word-at2 .ensures) (c .before .before .if1 .left) (c .before .if2 .left) (c .if3 .left) ∙ loop .inv .0, search needs)
 
 returns-4 : tie.Need-returns-4 Inv-loop μ-loop
 unfolding recordsLeft

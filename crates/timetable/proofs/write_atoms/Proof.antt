@@ -48,7 +48,12 @@ put-atom-requires : tie.Need-put-atom-requires Inv-loop μ-loop
 put-atom-requires c κs = omega (arith, ap length (marked-take (c .before .before .before .before .before .before .before .args .atoms .now) (c .before .before .before .before .loop .i) (c .before .before .before .loop-test .taken) (c .before .if1 .left)))
 
 add-at : tie.Need-add-at Inv-loop μ-loop
-add-at c = omega (arith, ap length (marked-take (c .before .before .before .before .before .before .before .before .before .before .args .atoms .now) (c .before .before .before .before .before .before .before .loop .i) (c .before .before .before .before .before .before .loop-test .taken) (c .before .before .before .before .if1 .left)))
+add-at c =
+    let args = c .before .before .before .before .before .before .before .before .before .before .args in
+    let loop = c .before .before .before .before .before .before .before .loop in
+    let loop-test = c .before .before .before .before .before .before .loop-test in
+    let if1 = c .before .before .before .before .if1 in
+    omega (arith, ap length (marked-take (args .atoms .now) (loop .i) (loop-test .taken) (if1 .left)))
 
 loop-less-2 : tie.Need-loop-less-2 Inv-loop μ-loop
 loop-less-2 c = search needs

@@ -65,13 +65,32 @@ same-length-2 : tie.Need-same-length-2 Inv-loop μ-loop
 same-length-2 c = simp length-set (omega arith)
 
 returns-2 : tie.Need-returns-2 Inv-loop μ-loop
-returns-2 c = rw (c .refusal2 .ensures, c .before .enum-told3 .given .1) (marking-open (c .before .before .before .before .before .before .before .before .before .before .before .before .loop .inv) (c .before .before .before .before .before .before .before .before .before .before .before .loop-test .taken) (sym (ap asAtom (c .before .before .before .before .before .before .before .before .a .given .1)) ∙ c .before .before .before .before .before .before .before .before .before .before .atom-above .ensures) (λ h. c .before .before .before .before .if1 .taken (c .before .before .before .before .before .look .ensures ∙ h)) (sym (ap asPassed (c .before .enum-told3 .given .1)) ∙ c .before .before .before .ending .ensures))
+returns-2 c =
+    let the-loop = c .before .before .before .before .before .before .before .before .before .before .before .before .loop in
+    let the-loop-test = c .before .before .before .before .before .before .before .before .before .before .before .loop-test in
+    let the-atom-above = c .before .before .before .before .before .before .before .before .before .before .atom-above in
+    let the-a-2 = c .before .before .before .before .before .before .before .before .a in
+    let the-look = c .before .before .before .before .before .look in
+    let the-if1 = c .before .before .before .before .if1 in
+    let loop = the-loop in
+    let loop-test = the-loop-test in
+    let atom-above = the-atom-above in
+    let the-a = the-a-2 in
+    let look = the-look in
+    let if1 = the-if1 in
+    rw (c .refusal2 .ensures, c .before .enum-told3 .given .1) (marking-open (loop .inv) (loop-test .taken) (sym (ap asAtom (the-a .given .1)) ∙ atom-above .ensures) (λ h. if1 .taken (look .ensures ∙ h)) (sym (ap asPassed (c .before .enum-told3 .given .1)) ∙ c .before .before .before .ending .ensures))
 
 same-length-3 : tie.Need-same-length-3 Inv-loop μ-loop
 same-length-3 c = simp length-set (omega arith)
 
 returns-3 : tie.Need-returns-3 Inv-loop μ-loop
-returns-3 c = marking-last (c .before .before .before .before .before .before .before .before .before .before .before .loop .inv) (c .before .before .before .before .before .before .before .before .before .before .loop-test .taken) (sym (ap asAtom (c .before .before .before .before .before .before .before .a .given .1)) ∙ c .before .before .before .before .before .before .before .before .before .atom-above .ensures) (λ h. c .before .before .before .if1 .taken (c .before .before .before .before .look .ensures ∙ h)) (sym (ap asPassed (c .enum-told2 .given .1)) ∙ c .before .before .ending .ensures)
+returns-3 c =
+    let loop = c .before .before .before .before .before .before .before .before .before .before .before .loop in
+    let loop-test = c .before .before .before .before .before .before .before .before .before .before .loop-test in
+    let atom-above = c .before .before .before .before .before .before .before .before .before .atom-above in
+    let the-a = c .before .before .before .before .before .before .before .a in
+    let look = c .before .before .before .before .look in
+    marking-last (loop .inv) (loop-test .taken) (sym (ap asAtom (the-a .given .1)) ∙ atom-above .ensures) (λ h. c .before .before .before .if1 .taken (look .ensures ∙ h)) (sym (ap asPassed (c .enum-told2 .given .1)) ∙ c .before .before .ending .ensures)
 
 add-next : tie.Need-add-next Inv-loop μ-loop
 add-next c = omega (arith, there 32 _ _ (lit< tt) (sym (c .before .look .ensures) ∙ c .if1 .left))
@@ -80,7 +99,12 @@ loop-less : tie.Need-loop-less Inv-loop μ-loop
 loop-less c = omega (arith, above-bounds _ _ _ (sym (ap asAtom (c .before .before .before .before .a .given .1)) ∙ c .before .before .before .before .before .before .atom-above .ensures))
 
 loop-again : tie.Need-loop-again Inv-loop μ-loop
-loop-again c = marking-more (c .before .before .before .before .before .before .before .before .loop .inv) (c .before .before .before .before .before .before .before .loop-test .taken) (sym (ap asAtom (c .before .before .before .before .a .given .1)) ∙ c .before .before .before .before .before .before .atom-above .ensures) (sym (c .before .look .ensures) ∙ c .if1 .left)
+loop-again c =
+    let loop = c .before .before .before .before .before .before .before .before .loop in
+    let loop-test = c .before .before .before .before .before .before .before .loop-test in
+    let atom-above = c .before .before .before .before .before .before .atom-above in
+    let the-a = c .before .before .before .before .a in
+    marking-more (loop .inv) (loop-test .taken) (sym (ap asAtom (the-a .given .1)) ∙ atom-above .ensures) (sym (c .before .look .ensures) ∙ c .if1 .left)
 
 seven-requires : tie.Need-seven-requires Inv-loop μ-loop
 seven-requires c κs = search needs

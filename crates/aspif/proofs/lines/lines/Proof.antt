@@ -64,9 +64,14 @@ same-length-2 c = c .before .before .before .before .before .before .before .bef
 returns-2 : tie.Need-returns-2 Inv-loop μ-loop
 unfolding taped
 returns-2 c =
-    let e = rw (c .before .before .before .before .before .before .a .given .1) at (c .before .before .before .before .before .before .before .before .natural .ensures) in
+    let loop = c .before .before .before .before .before .before .before .before .before .before .loop in
+    let loop-test = c .before .before .before .before .before .before .before .before .before .loop-test in
+    let natural = c .before .before .before .before .before .before .before .before .natural in
+    let the-a = c .before .before .before .before .before .before .a in
+    let if1 = c .before .before .before .before .if1 in
+    let e = rw (the-a .given .1) at (natural .ensures) in
     let g = rw (c .before .enum-told3 .given .1) at (c .before .before .before .last-line .ensures) in
-    let f = reach-fault _ _ _ _ _ _ _ _ (c .before .before .before .before .before .before .before .before .before .before .loop .inv .0) _ _ (last-stop _ _ _ _ _ _ _ (c .before .before .before .before .before .before .before .before .before .loop-test .taken) e (c .before .before .before .before .if1 .taken) g) in
+    let f = reach-fault _ _ _ _ _ _ _ _ (loop .inv .0) _ _ (last-stop _ _ _ _ _ _ _ (loop-test .taken) e (if1 .taken) g) in
     (rw (c .refusal2 .ensures, c .before .enum-told3 .given .1, f), (rw (c .refusal2 .ensures, c .before .enum-told3 .given .1, f), tt))
 
 sub-count : tie.Need-sub-count Inv-loop μ-loop
@@ -88,10 +93,13 @@ returns-3 c =
 
 statement-of-requires : tie.Need-statement-of-requires Inv-loop μ-loop
 statement-of-requires c κs =
-    let p = c .before .before .before .before .before .before .before .before .before .before .pre in
-    let e = rw (c .before .before .before .a .given .1) at (c .before .before .before .before .before .natural .ensures) in
+    let pre = c .before .before .before .before .before .before .before .before .before .before .pre in
+    let loop = c .before .before .before .before .before .before .before .loop in
+    let natural = c .before .before .before .before .before .natural in
+    let p = pre in
+    let e = rw (c .before .before .before .a .given .1) at (natural .ensures) in
     let h = natural-ahead _ _ _ _ .ends _ _ e in
-    ((c .before .before .before .before .before .before .before .loop .inv .0 .room, h .0, rw (c .before .before .before .before .before .before .before .loop .inv .1) (c .before .before .before .before .before .before .before .before .before .before .pre .0), c .before .before .before .before .before .before .before .before .before .before .pre .1, omega arith), ten-far _ _ _ _ _ _ e)
+    ((loop .inv .0 .room, h .0, rw (loop .inv .1) (pre .0), pre .1, omega arith), ten-far _ _ _ _ _ _ e)
 
 enum-known-w : tie.Need-enum-known-w Inv-loop μ-loop
 enum-known-w c = search needs
@@ -108,9 +116,15 @@ same-length-4 c = c .before .before .before .before .before .statement-of .kept 
 returns-4 : tie.Need-returns-4 Inv-loop μ-loop
 unfolding taped
 returns-4 c =
-    let e = rw (c .before .before .before .before .before .before .before .before .before .a .given .1) at (c .before .before .before .before .before .before .before .before .before .before .before .natural .ensures) in
-    let g = stopped words _ _ _ (rw (c .before .enum-told4 .given .1) at (c .before .before .before .before .before .statement-of .ensures .0)) in
-    let f = reach-fault _ _ _ _ _ _ _ _ (c .before .before .before .before .before .before .before .before .before .before .before .before .before .loop .inv .0) _ _ (line-stop _ _ _ _ _ _ _ (c .before .before .before .before .before .before .before .before .before .before .before .before .loop-test .taken) e (c .before .before .before .before .before .before .before .if1 .left) g) in
+    let loop = c .before .before .before .before .before .before .before .before .before .before .before .before .before .loop in
+    let loop-test = c .before .before .before .before .before .before .before .before .before .before .before .before .loop-test in
+    let natural = c .before .before .before .before .before .before .before .before .before .before .before .natural in
+    let the-a = c .before .before .before .before .before .before .before .before .before .a in
+    let if1 = c .before .before .before .before .before .before .before .if1 in
+    let statement-of = c .before .before .before .before .before .statement-of in
+    let e = rw (the-a .given .1) at (natural .ensures) in
+    let g = stopped words _ _ _ (rw (c .before .enum-told4 .given .1) at (statement-of .ensures .0)) in
+    let f = reach-fault _ _ _ _ _ _ _ _ (loop .inv .0) _ _ (line-stop _ _ _ _ _ _ _ (loop-test .taken) e (if1 .left) g) in
     (rw (c .refusal3 .ensures, c .before .enum-told4 .given .1, f), (rw (c .refusal3 .ensures, c .before .enum-told4 .given .1, f), tt))
 
 sub-left : tie.Need-sub-left Inv-loop μ-loop
@@ -121,11 +135,17 @@ loop-less c = search needs
 
 loop-again : tie.Need-loop-again Inv-loop μ-loop
 loop-again c =
-    let e = rw (c .before .before .before .before .before .before .before .before .before .a .given .1) at (c .before .before .before .before .before .before .before .before .before .before .before .natural .ensures) in
-    let g = wrote words _ _ _ (rw (c .before .w .given .1) at (c .before .before .before .before .before .statement-of .ensures .0)) in
-    let b = rw (c .before .w .given .1) at (c .before .before .before .before .before .statement-of .ensures .1) in
-    let l = line-goes _ _ _ _ _ _ _ (c .before .before .before .before .before .before .before .before .before .before .before .before .loop-test .taken) e (c .before .before .before .before .before .before .before .if1 .left) (g .is) in
-    (reach-more _ _ _ _ _ _ _ _ (c .before .before .before .before .before .before .before .before .before .before .before .before .before .loop .inv .0) _ _ _ _ _ l (g .tape) (g .next) b (omega arith), c .before .before .before .before .before .statement-of .kept .1 .1 .1 .1 .0 ∙ c .before .before .before .before .before .before .before .before .before .before .before .before .before .loop .inv .1)
+    let loop = c .before .before .before .before .before .before .before .before .before .before .before .before .before .loop in
+    let loop-test = c .before .before .before .before .before .before .before .before .before .before .before .before .loop-test in
+    let natural = c .before .before .before .before .before .before .before .before .before .before .before .natural in
+    let the-a = c .before .before .before .before .before .before .before .before .before .a in
+    let if1 = c .before .before .before .before .before .before .before .if1 in
+    let statement-of = c .before .before .before .before .before .statement-of in
+    let e = rw (the-a .given .1) at (natural .ensures) in
+    let g = wrote words _ _ _ (rw (c .before .w .given .1) at (statement-of .ensures .0)) in
+    let b = rw (c .before .w .given .1) at (statement-of .ensures .1) in
+    let l = line-goes _ _ _ _ _ _ _ (loop-test .taken) e (if1 .left) (g .is) in
+    (reach-more _ _ _ _ _ _ _ _ (loop .inv .0) _ _ _ _ _ l (g .tape) (g .next) b (omega arith), statement-of .kept .1 .1 .1 .1 .0 ∙ loop .inv .1)
 
 same-length-5 : tie.Need-same-length-5 Inv-loop μ-loop
 same-length-5 c = c .before .loop .inv .1

@@ -38,7 +38,12 @@ same-length-3 c = search needs
 
 returns-3 : tie.Need-returns-3
 unfolding statementOf
-returns-3 c = (rw (ne-eqb _ _ (c .before .before .before .before .before .before .if1 .left), ne-eqb _ _ (c .before .before .before .before .before .if2 .left), eq-eqb _ _ (c .before .before .before .before .if3 .taken)) (c .before .before .theory-part .ensures .0), c .before .before .theory-part .ensures .1)
+returns-3 c =
+    let if1 = c .before .before .before .before .before .before .if1 in
+    let if2 = c .before .before .before .before .before .if2 in
+    let if3 = c .before .before .before .before .if3 in
+    let theory-part = c .before .before .theory-part in
+    (rw (ne-eqb _ _ (if1 .left), ne-eqb _ _ (if2 .left), eq-eqb _ _ (if3 .taken)) (theory-part .ensures .0), theory-part .ensures .1)
 
 comment-line-requires : tie.Need-comment-line-requires
 comment-line-requires c κs =
@@ -50,7 +55,13 @@ same-length-4 c = search needs
 
 returns-4 : tie.Need-returns-4
 unfolding statementOf
-returns-4 c = (rw (ne-eqb _ _ (c .before .before .before .before .before .before .before .if1 .left), ne-eqb _ _ (c .before .before .before .before .before .before .if2 .left), ne-eqb _ _ (c .before .before .before .before .before .if3 .left), eq-eqb _ _ (c .before .before .before .before .if4 .taken)) (c .before .before .comment-line .ensures .0), c .before .before .comment-line .ensures .1)
+returns-4 c =
+    let if1 = c .before .before .before .before .before .before .before .if1 in
+    let if2 = c .before .before .before .before .before .before .if2 in
+    let if3 = c .before .before .before .before .before .if3 in
+    let if4 = c .before .before .before .before .if4 in
+    let comment-line = c .before .before .comment-line in
+    (rw (ne-eqb _ _ (if1 .left), ne-eqb _ _ (if2 .left), ne-eqb _ _ (if3 .left), eq-eqb _ _ (if4 .taken)) (comment-line .ensures .0), comment-line .ensures .1)
 
 returns-5 : tie.Need-returns-5
 unfolding statementOf onTape

@@ -55,8 +55,11 @@ same-length c = c .before .before .before .before .rest .kept .1 .1 .0 ∙ c .be
 returns-2 : tie.Need-returns-2
 unfolding commentLine
 returns-2 c =
-    let qt = stopped listed _ _ _ (rw (c .enum-told2 .given .1) at (c .before .before .before .before .rest .ensures .0)) in
-    (rw (c .enum-told2 .given .1, ← (c .before .before .before .before .before .before .before .before .before .before .before .before .before .byte .ensures), c .before .before .before .before .before .before .before .before .before .before .before .a .given .1, qt) (on-fault _ _ _ _ _), c .before .before .before .before .rest .ensures .1)
+    let byte = c .before .before .before .before .before .before .before .before .before .before .before .before .before .byte in
+    let the-a = c .before .before .before .before .before .before .before .before .before .before .before .a in
+    let rest = c .before .before .before .before .rest in
+    let qt = stopped listed _ _ _ (rw (c .enum-told2 .given .1) at (rest .ensures .0)) in
+    (rw (c .enum-told2 .given .1, ← (byte .ensures), the-a .given .1, qt) (on-fault _ _ _ _ _), rest .ensures .1)
 
 end-line-requires : tie.Need-end-line-requires
 end-line-requires c κs =
@@ -73,9 +76,13 @@ same-length-2 c = c .before .before .before .before .before .before .rest .kept 
 returns-3 : tie.Need-returns-3
 unfolding commentLine
 returns-3 c =
-    let wt = wrote listed _ _ _ (rw (c .before .before .t .given .1) at (c .before .before .before .before .before .before .rest .ensures .0)) in (
-      rw (← (c .before .before .before .before .before .before .before .before .before .before .before .before .before .before .before .byte .ensures), c .before .before .before .before .before .before .before .before .before .before .before .before .before .a .given .1, wt .is) (c .end-line .ensures .0 _ ∙ line-ends _ _ _ _ _ _ _
-          (on-more _ _ _ (listed (wt .value)) (on-more _ _ _ (_ ∷ _ ∷ []) (on-start _ _) (c .before .before .before .before .before .before .before .before .before .before .begin .ensures .0) (c .before .before .before .before .before .before .before .before .before .before .begin .ensures .1)) (wt .tape) (wt .next))
+    let byte = c .before .before .before .before .before .before .before .before .before .before .before .before .before .before .before .byte in
+    let the-a = c .before .before .before .before .before .before .before .before .before .before .before .before .before .a in
+    let begin = c .before .before .before .before .before .before .before .before .before .before .begin in
+    let rest = c .before .before .before .before .before .before .rest in
+    let wt = wrote listed _ _ _ (rw (c .before .before .t .given .1) at (rest .ensures .0)) in (
+      rw (← (byte .ensures), the-a .given .1, wt .is) (c .end-line .ensures .0 _ ∙ line-ends _ _ _ _ _ _ _
+          (on-more _ _ _ (listed (wt .value)) (on-more _ _ _ (_ ∷ _ ∷ []) (on-start _ _) (begin .ensures .0) (begin .ensures .1)) (wt .tape) (wt .next))
           refl),
       c .end-line .ensures .1,
     )

@@ -56,8 +56,11 @@ same-length c = c .before .before .before .before .listed .kept .1 .1 .1 .1 .0 �
 returns-2 : tie.Need-returns-2
 unfolding outputLine string
 returns-2 c =
-    let qt = stopped listed _ _ _ (rw (c .enum-told2 .given .1) at (c .before .before .before .before .listed .ensures .0)) in
-    (rw (c .enum-told2 .given .1, ← (c .before .before .before .before .before .before .before .before .before .before .before .before .before .string-length .ensures), c .before .before .before .before .before .before .before .before .before .before .before .a .given .1, qt) (on-fault _ _ _ _ _), c .before .before .before .before .listed .ensures .1)
+    let string-length = c .before .before .before .before .before .before .before .before .before .before .before .before .before .string-length in
+    let the-a = c .before .before .before .before .before .before .before .before .before .before .before .a in
+    let the-listed = c .before .before .before .before .listed in
+    let qt = stopped listed _ _ _ (rw (c .enum-told2 .given .1) at (the-listed .ensures .0)) in
+    (rw (c .enum-told2 .given .1, ← (string-length .ensures), the-a .given .1, qt) (on-fault _ _ _ _ _), the-listed .ensures .1)
 
 literals-requires : tie.Need-literals-requires
 literals-requires c κs =
@@ -75,35 +78,61 @@ enum-told-3 : tie.Need-enum-told-3
 enum-told-3 c = search needs
 
 same-length-2 : tie.Need-same-length-2
-same-length-2 c = c .before .before .before .before .literals .kept .1 .1 .0 ∙ c .before .before .before .before .before .before .before .before .before .before .before .listed .kept .1 .1 .1 .1 .0 ∙ c .before .before .before .before .before .before .before .before .before .before .before .before .before .before .before .begin .kept .0
+same-length-2 c =
+    let begin = c .before .before .before .before .before .before .before .before .before .before .before .before .before .before .before .begin in
+    let listed = c .before .before .before .before .before .before .before .before .before .before .before .listed in
+    let literals = c .before .before .before .before .literals in
+    literals .kept .1 .1 .0 ∙ listed .kept .1 .1 .1 .1 .0 ∙ begin .kept .0
 
 returns-3 : tie.Need-returns-3
 unfolding outputLine string
 returns-3 c =
-    let wt = wrote listed _ _ _ (rw (c .before .before .before .before .before .before .before .t .given .1) at (c .before .before .before .before .before .before .before .before .before .before .before .listed .ensures .0)) in
-    let qb = stopped listed _ _ _ (rw (c .enum-told3 .given .1) at (c .before .before .before .before .literals .ensures .0)) in
-    (rw (c .enum-told3 .given .1, ← (c .before .before .before .before .before .before .before .before .before .before .before .before .before .before .before .before .before .before .before .before .string-length .ensures), c .before .before .before .before .before .before .before .before .before .before .before .before .before .before .before .before .before .before .a .given .1, wt .is, qb) (on-fault _ _ _ _ _), c .before .before .before .before .literals .ensures .1)
+    let string-length = c .before .before .before .before .before .before .before .before .before .before .before .before .before .before .before .before .before .before .before .before .string-length in
+    let the-a = c .before .before .before .before .before .before .before .before .before .before .before .before .before .before .before .before .before .before .a in
+    let the-listed = c .before .before .before .before .before .before .before .before .before .before .before .listed in
+    let the-t = c .before .before .before .before .before .before .before .t in
+    let literals = c .before .before .before .before .literals in
+    let wt = wrote listed _ _ _ (rw (the-t .given .1) at (the-listed .ensures .0)) in
+    let qb = stopped listed _ _ _ (rw (c .enum-told3 .given .1) at (literals .ensures .0)) in
+    (rw (c .enum-told3 .given .1, ← (string-length .ensures), the-a .given .1, wt .is, qb) (on-fault _ _ _ _ _), literals .ensures .1)
 
 end-line-requires : tie.Need-end-line-requires
 end-line-requires c κs =
-    let p = c .before .before .before .before .before .before .before .before .before .before .before .before .before .before .before .before .before .before .before .before .before .before .before .before .pre in
-    let ea = rw (c .before .before .before .before .before .before .before .before .before .before .before .before .before .before .before .before .before .before .before .a .given .1) at (c .before .before .before .before .before .before .before .before .before .before .before .before .before .before .before .before .before .before .before .before .before .string-length .ensures) in
+    let pre = c .before .before .before .before .before .before .before .before .before .before .before .before .before .before .before .before .before .before .before .before .before .before .before .before .pre in
+    let string-length = c .before .before .before .before .before .before .before .before .before .before .before .before .before .before .before .before .before .before .before .before .before .string-length in
+    let the-a = c .before .before .before .before .before .before .before .before .before .before .before .before .before .before .before .before .before .before .before .a in
+    let begin = c .before .before .before .before .before .before .before .before .before .before .before .before .before .before .before .before .begin in
+    let listed = c .before .before .before .before .before .before .before .before .before .before .before .before .listed in
+    let the-t = c .before .before .before .before .before .before .before .before .t in
+    let literals = c .before .before .before .before .before .literals in
+    let p = pre in
+    let ea = rw (the-a .given .1) at (string-length .ensures) in
     let fa = stringLength-far _ _ .ends _ _ ea in
-    let nbegin = c .before .before .before .before .before .before .before .before .before .before .before .before .before .before .before .before .begin .ensures .1 in
-    let rt = rw (c .before .before .before .before .before .before .before .before .t .given .1) at (c .before .before .before .before .before .before .before .before .before .before .before .before .listed .ensures .1) in
-    let rb = rw (c .before .b .given .1) at (c .before .before .before .before .before .literals .ensures .1) in
+    let nbegin = begin .ensures .1 in
+    let rt = rw (the-t .given .1) at (listed .ensures .1) in
+    let rb = rw (c .before .b .given .1) at (literals .ensures .1) in
     omega arith
 
 same-length-3 : tie.Need-same-length-3
-same-length-3 c = c .before .before .before .before .before .before .literals .kept .1 .1 .0 ∙ c .before .before .before .before .before .before .before .before .before .before .before .before .before .listed .kept .1 .1 .1 .1 .0 ∙ c .before .before .before .before .before .before .before .before .before .before .before .before .before .before .before .before .before .begin .kept .0
+same-length-3 c =
+    let begin = c .before .before .before .before .before .before .before .before .before .before .before .before .before .before .before .before .before .begin in
+    let listed = c .before .before .before .before .before .before .before .before .before .before .before .before .before .listed in
+    let literals = c .before .before .before .before .before .before .literals in
+    literals .kept .1 .1 .0 ∙ listed .kept .1 .1 .1 .1 .0 ∙ begin .kept .0
 
 returns-4 : tie.Need-returns-4
 unfolding outputLine string
 returns-4 c =
-    let wt = wrote listed _ _ _ (rw (c .before .before .before .before .before .before .before .before .before .t .given .1) at (c .before .before .before .before .before .before .before .before .before .before .before .before .before .listed .ensures .0)) in
-    let wb = wrote listed _ _ _ (rw (c .before .before .b .given .1) at (c .before .before .before .before .before .before .literals .ensures .0)) in (
-      rw (← (c .before .before .before .before .before .before .before .before .before .before .before .before .before .before .before .before .before .before .before .before .before .before .string-length .ensures), c .before .before .before .before .before .before .before .before .before .before .before .before .before .before .before .before .before .before .before .before .a .given .1, wt .is, wb .is) (c .end-line .ensures .0 _ ∙ line-ends _ _ _ _ _ _ _
-          (on-more _ _ _ (listed (wb .value)) (on-more _ _ _ (listed (wt .value)) (on-more _ _ _ (_ ∷ _ ∷ []) (on-start _ _) (c .before .before .before .before .before .before .before .before .before .before .before .before .before .before .before .before .before .begin .ensures .0) (c .before .before .before .before .before .before .before .before .before .before .before .before .before .before .before .before .before .begin .ensures .1)) (wt .tape) (wt .next)) (wb .tape) (wb .next))
+    let string-length = c .before .before .before .before .before .before .before .before .before .before .before .before .before .before .before .before .before .before .before .before .before .before .string-length in
+    let the-a = c .before .before .before .before .before .before .before .before .before .before .before .before .before .before .before .before .before .before .before .before .a in
+    let begin = c .before .before .before .before .before .before .before .before .before .before .before .before .before .before .before .before .before .begin in
+    let the-listed = c .before .before .before .before .before .before .before .before .before .before .before .before .before .listed in
+    let the-t = c .before .before .before .before .before .before .before .before .before .t in
+    let literals = c .before .before .before .before .before .before .literals in
+    let wt = wrote listed _ _ _ (rw (the-t .given .1) at (the-listed .ensures .0)) in
+    let wb = wrote listed _ _ _ (rw (c .before .before .b .given .1) at (literals .ensures .0)) in (
+      rw (← (string-length .ensures), the-a .given .1, wt .is, wb .is) (c .end-line .ensures .0 _ ∙ line-ends _ _ _ _ _ _ _
+          (on-more _ _ _ (listed (wb .value)) (on-more _ _ _ (listed (wt .value)) (on-more _ _ _ (_ ∷ _ ∷ []) (on-start _ _) (begin .ensures .0) (begin .ensures .1)) (wt .tape) (wt .next)) (wb .tape) (wb .next))
           (rw literals-forth)),
       c .end-line .ensures .1,
     )

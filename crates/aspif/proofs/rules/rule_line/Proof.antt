@@ -55,8 +55,11 @@ same-length c = c .before .before .before .before .heads .kept .1 .1 .1 .0 ∙ c
 returns-2 : tie.Need-returns-2
 unfolding ruleLine
 returns-2 c =
-    let qh = stopped listed _ _ _ (rw (c .enum-told2 .given .1) at (c .before .before .before .before .heads .ensures .0)) in
-    (rw (c .enum-told2 .given .1, ← (c .before .before .before .before .before .before .before .before .before .before .before .before .before .next-natural .ensures), c .before .before .before .before .before .before .before .before .before .before .before .a .given .1, qh) (on-fault _ _ _ _ _), c .before .before .before .before .heads .ensures .1)
+    let next-natural = c .before .before .before .before .before .before .before .before .before .before .before .before .before .next-natural in
+    let the-a = c .before .before .before .before .before .before .before .before .before .before .before .a in
+    let heads = c .before .before .before .before .heads in
+    let qh = stopped listed _ _ _ (rw (c .enum-told2 .given .1) at (heads .ensures .0)) in
+    (rw (c .enum-told2 .given .1, ← (next-natural .ensures), the-a .given .1, qh) (on-fault _ _ _ _ _), heads .ensures .1)
 
 body-requires : tie.Need-body-requires
 body-requires c κs =
@@ -74,37 +77,63 @@ enum-told-3 : tie.Need-enum-told-3
 enum-told-3 c = search needs
 
 same-length-2 : tie.Need-same-length-2
-same-length-2 c = c .before .before .before .before .body .kept .1 .1 .0 ∙ c .before .before .before .before .before .before .before .before .before .before .before .heads .kept .1 .1 .1 .0 ∙ c .before .before .before .before .before .before .before .before .before .before .before .before .before .before .before .begin-with .kept .0
+same-length-2 c =
+    let begin-with = c .before .before .before .before .before .before .before .before .before .before .before .before .before .before .before .begin-with in
+    let heads = c .before .before .before .before .before .before .before .before .before .before .before .heads in
+    let body = c .before .before .before .before .body in
+    body .kept .1 .1 .0 ∙ heads .kept .1 .1 .1 .0 ∙ begin-with .kept .0
 
 returns-3 : tie.Need-returns-3
 unfolding ruleLine
 returns-3 c =
-    let wh = wrote listed _ _ _ (rw (c .before .before .before .before .before .before .before .h .given .1) at (c .before .before .before .before .before .before .before .before .before .before .before .heads .ensures .0)) in
-    let qb = stopped listed _ _ _ (rw (c .enum-told3 .given .1) at (c .before .before .before .before .body .ensures .0)) in
-    (rw (c .enum-told3 .given .1, ← (c .before .before .before .before .before .before .before .before .before .before .before .before .before .before .before .before .before .before .before .before .next-natural .ensures), c .before .before .before .before .before .before .before .before .before .before .before .before .before .before .before .before .before .before .a .given .1, wh .is, qb) (on-fault _ _ _ _ _), c .before .before .before .before .body .ensures .1)
+    let next-natural = c .before .before .before .before .before .before .before .before .before .before .before .before .before .before .before .before .before .before .before .before .next-natural in
+    let the-a = c .before .before .before .before .before .before .before .before .before .before .before .before .before .before .before .before .before .before .a in
+    let heads = c .before .before .before .before .before .before .before .before .before .before .before .heads in
+    let the-h = c .before .before .before .before .before .before .before .h in
+    let body = c .before .before .before .before .body in
+    let wh = wrote listed _ _ _ (rw (the-h .given .1) at (heads .ensures .0)) in
+    let qb = stopped listed _ _ _ (rw (c .enum-told3 .given .1) at (body .ensures .0)) in
+    (rw (c .enum-told3 .given .1, ← (next-natural .ensures), the-a .given .1, wh .is, qb) (on-fault _ _ _ _ _), body .ensures .1)
 
 end-line-requires : tie.Need-end-line-requires
 end-line-requires c κs =
-    let p = c .before .before .before .before .before .before .before .before .before .before .before .before .before .before .before .before .before .before .before .before .before .before .before .before .pre in
-    let ea = rw (c .before .before .before .before .before .before .before .before .before .before .before .before .before .before .before .before .before .before .before .a .given .1) at (c .before .before .before .before .before .before .before .before .before .before .before .before .before .before .before .before .before .before .before .before .before .next-natural .ensures) in
+    let pre = c .before .before .before .before .before .before .before .before .before .before .before .before .before .before .before .before .before .before .before .before .before .before .before .before .pre in
+    let next-natural = c .before .before .before .before .before .before .before .before .before .before .before .before .before .before .before .before .before .before .before .before .before .next-natural in
+    let the-a = c .before .before .before .before .before .before .before .before .before .before .before .before .before .before .before .before .before .before .before .a in
+    let begin-with = c .before .before .before .before .before .before .before .before .before .before .before .before .before .before .before .before .begin-with in
+    let heads = c .before .before .before .before .before .before .before .before .before .before .before .before .heads in
+    let the-h = c .before .before .before .before .before .before .before .before .h in
+    let body = c .before .before .before .before .before .body in
+    let p = pre in
+    let ea = rw (the-a .given .1) at (next-natural .ensures) in
     let fa = nextNatural-far _ _ _ _ .ends _ _ ea in
-    let nbeginwith = c .before .before .before .before .before .before .before .before .before .before .before .before .before .before .before .before .begin-with .ensures .1 in
-    let rh = rw (c .before .before .before .before .before .before .before .before .h .given .1) at (c .before .before .before .before .before .before .before .before .before .before .before .before .heads .ensures .1) in
-    let rb = rw (c .before .b .given .1) at (c .before .before .before .before .before .body .ensures .1) in
+    let nbeginwith = begin-with .ensures .1 in
+    let rh = rw (the-h .given .1) at (heads .ensures .1) in
+    let rb = rw (c .before .b .given .1) at (body .ensures .1) in
     omega arith
 
 same-length-3 : tie.Need-same-length-3
-same-length-3 c = c .before .before .before .before .before .before .body .kept .1 .1 .0 ∙ c .before .before .before .before .before .before .before .before .before .before .before .before .before .heads .kept .1 .1 .1 .0 ∙ c .before .before .before .before .before .before .before .before .before .before .before .before .before .before .before .before .before .begin-with .kept .0
+same-length-3 c =
+    let begin-with = c .before .before .before .before .before .before .before .before .before .before .before .before .before .before .before .before .before .begin-with in
+    let heads = c .before .before .before .before .before .before .before .before .before .before .before .before .before .heads in
+    let body = c .before .before .before .before .before .before .body in
+    body .kept .1 .1 .0 ∙ heads .kept .1 .1 .1 .0 ∙ begin-with .kept .0
 
 returns-4 : tie.Need-returns-4
 unfolding ruleLine
 returns-4 c =
-    let wh = wrote listed _ _ _ (rw (c .before .before .before .before .before .before .before .before .before .h .given .1) at (c .before .before .before .before .before .before .before .before .before .before .before .before .before .heads .ensures .0)) in
-    let wb = wrote listed _ _ _ (rw (c .before .before .b .given .1) at (c .before .before .before .before .before .before .body .ensures .0)) in
-    let ea = rw (c .before .before .before .before .before .before .before .before .before .before .before .before .before .before .before .before .before .before .before .before .a .given .1) at (c .before .before .before .before .before .before .before .before .before .before .before .before .before .before .before .before .before .before .before .before .before .before .next-natural .ensures) in
+    let next-natural = c .before .before .before .before .before .before .before .before .before .before .before .before .before .before .before .before .before .before .before .before .before .before .next-natural in
+    let the-a = c .before .before .before .before .before .before .before .before .before .before .before .before .before .before .before .before .before .before .before .before .a in
+    let begin-with = c .before .before .before .before .before .before .before .before .before .before .before .before .before .before .before .before .before .begin-with in
+    let heads = c .before .before .before .before .before .before .before .before .before .before .before .before .before .heads in
+    let the-h = c .before .before .before .before .before .before .before .before .before .h in
+    let body = c .before .before .before .before .before .before .body in
+    let wh = wrote listed _ _ _ (rw (the-h .given .1) at (heads .ensures .0)) in
+    let wb = wrote listed _ _ _ (rw (c .before .before .b .given .1) at (body .ensures .0)) in
+    let ea = rw (the-a .given .1) at (next-natural .ensures) in
     let hw = head-forth _ (wh .value) (nextNatural-within _ _ _ _ _ _ ea) (heads-few _ _ _ _ _ (sym (wh .is))) in (
-      rw (← (c .before .before .before .before .before .before .before .before .before .before .before .before .before .before .before .before .before .before .before .before .before .before .next-natural .ensures), c .before .before .before .before .before .before .before .before .before .before .before .before .before .before .before .before .before .before .before .before .a .given .1, wh .is, wb .is) (c .end-line .ensures .0 _ ∙ line-ends _ _ _ _ _ _ _
-          (on-more _ _ _ (listed (wb .value)) (on-more _ _ _ (listed (wh .value)) (on-more _ _ _ (_ ∷ _ ∷ _ ∷ []) (on-start _ _) (c .before .before .before .before .before .before .before .before .before .before .before .before .before .before .before .before .before .begin-with .ensures .0) (c .before .before .before .before .before .before .before .before .before .before .before .before .before .before .before .before .before .begin-with .ensures .1)) (wh .tape) (wh .next)) (wb .tape) (wb .next))
+      rw (← (next-natural .ensures), the-a .given .1, wh .is, wb .is) (c .end-line .ensures .0 _ ∙ line-ends _ _ _ _ _ _ _
+          (on-more _ _ _ (listed (wb .value)) (on-more _ _ _ (listed (wh .value)) (on-more _ _ _ (_ ∷ _ ∷ _ ∷ []) (on-start _ _) (begin-with .ensures .0) (begin-with .ensures .1)) (wh .tape) (wh .next)) (wb .tape) (wb .next))
           (rw (hw, literals-forth))),
       c .end-line .ensures .1,
     )

@@ -19,7 +19,9 @@ same-length c = c .before .before .put2 .kept .0 ∙ c .before .before .before .
 
 returns : tie.Need-returns
 returns c =
-    (rw (c .before .before .put2 .ensures .0, c .before .before .before .before .before .before .put .ensures .0, c .before .before .before .before .before .before .put .ensures .1, add-one), omega (arith, c .before .before .before .before .before .before .put .ensures .1, c .before .before .put2 .ensures .1))
+    let put = c .before .before .before .before .before .before .put in
+    let put2 = c .before .before .put2 in
+    (rw (put2 .ensures .0, put .ensures .0, put .ensures .1, add-one), omega (arith, put .ensures .1, put2 .ensures .1))
 
 pub begin-spec : {M : Type 1} → statement M
 begin-spec = tie.close (tie.spec put-requires put-requires-2 same-length returns)

@@ -20,7 +20,10 @@ same-length c = c .before .before .put .kept .0 ∙ c .before .before .before .b
 
 returns : tie.Need-returns
 returns c =
-    (rw (c .before .before .put .ensures .0, c .before .before .before .before .before .before .begin .ensures .0, c .before .before .before .before .before .before .begin .ensures .1) (sets-append (c .before .before .before .before .before .before .before .before .before .args .tape .now) (c .before .before .before .before .before .before .before .before .before .args .out) (_ ∷ _ ∷ []) (_ ∷ [])), omega (arith, c .before .before .before .before .before .before .begin .ensures .1, c .before .before .put .ensures .1))
+    let args = c .before .before .before .before .before .before .before .before .before .args in
+    let begin = c .before .before .before .before .before .before .begin in
+    let put = c .before .before .put in
+    (rw (put .ensures .0, begin .ensures .0, begin .ensures .1) (sets-append (args .tape .now) (args .out) (_ ∷ _ ∷ []) (_ ∷ [])), omega (arith, begin .ensures .1, put .ensures .1))
 
 pub begin-with-spec : {M : Type 1} → statement M
 begin-with-spec = tie.close (tie.spec begin-requires put-requires same-length returns)

@@ -65,14 +65,21 @@ put-requires c κs =
 
 counted-requires : tie.Need-counted-requires
 counted-requires c κs =
-    let p = c .before .before .before .before .before .before .before .before .before .before .before .before .before .before .before .before .before .before .before .pre in
-    let ea = rw (c .before .before .before .before .before .before .before .before .before .before .before .before .before .before .a .given .1) at (c .before .before .before .before .before .before .before .before .before .before .before .before .before .before .before .before .next-term .ensures) in
+    let pre = c .before .before .before .before .before .before .before .before .before .before .before .before .before .before .before .before .before .before .before .pre in
+    let next-term = c .before .before .before .before .before .before .before .before .before .before .before .before .before .before .before .before .next-term in
+    let the-a = c .before .before .before .before .before .before .before .before .before .before .before .before .before .before .a in
+    let next-integer = c .before .before .before .before .before .before .before .before .before .before .before .before .next-integer in
+    let the-b = c .before .before .before .before .before .before .before .before .before .before .b in
+    let begin-with = c .before .before .before .before .before .before .before .begin-with in
+    let put = c .before .before .before .put in
+    let p = pre in
+    let ea = rw (the-a .given .1) at (next-term .ensures) in
     let fa = nextTerm-far _ _ .ends _ _ ea in
-    let eb = rw (c .before .before .before .before .before .before .before .before .before .before .b .given .1) at (c .before .before .before .before .before .before .before .before .before .before .before .before .next-integer .ensures) in
+    let eb = rw (the-b .given .1) at (next-integer .ensures) in
     let fb = nextInteger-far _ _ _ _ .ends _ _ eb in
-    let nbeginwith = c .before .before .before .before .before .before .before .begin-with .ensures .1 in
-    let nput = c .before .before .before .put .ensures .1 in
-    (omega arith, omega arith, rw (c .before .before .before .put .kept .0 ∙ c .before .before .before .before .before .before .before .begin-with .kept .0) (omega arith))
+    let nbeginwith = begin-with .ensures .1 in
+    let nput = put .ensures .1 in
+    (omega arith, omega arith, rw (put .kept .0 ∙ begin-with .kept .0) (omega arith))
 
 enum-known-t : tie.Need-enum-known-t
 enum-known-t c = search needs
@@ -86,32 +93,56 @@ same-length c = c .before .before .before .before .counted .kept .1 .1 .1 .1 .1 
 returns-3 : tie.Need-returns-3
 unfolding compoundLine
 returns-3 c =
-    let qt = stopped listed _ _ _ (rw (c .enum-told3 .given .1) at (c .before .before .before .before .counted .ensures .0)) in
-    (rw (c .enum-told3 .given .1, ← (c .before .before .before .before .before .before .before .before .before .before .before .before .before .before .before .before .before .before .before .before .before .next-term .ensures), c .before .before .before .before .before .before .before .before .before .before .before .before .before .before .before .before .before .before .before .a .given .1, ← (c .before .before .before .before .before .before .before .before .before .before .before .before .before .before .before .before .before .next-integer .ensures), c .before .before .before .before .before .before .before .before .before .before .before .before .before .before .before .b .given .1, qt) (on-fault _ _ _ _ _), c .before .before .before .before .counted .ensures .1)
+    let next-term = c .before .before .before .before .before .before .before .before .before .before .before .before .before .before .before .before .before .before .before .before .before .next-term in
+    let the-a = c .before .before .before .before .before .before .before .before .before .before .before .before .before .before .before .before .before .before .before .a in
+    let next-integer = c .before .before .before .before .before .before .before .before .before .before .before .before .before .before .before .before .before .next-integer in
+    let the-b = c .before .before .before .before .before .before .before .before .before .before .before .before .before .before .before .b in
+    let counted = c .before .before .before .before .counted in
+    let qt = stopped listed _ _ _ (rw (c .enum-told3 .given .1) at (counted .ensures .0)) in
+    (rw (c .enum-told3 .given .1, ← (next-term .ensures), the-a .given .1, ← (next-integer .ensures), the-b .given .1, qt) (on-fault _ _ _ _ _), counted .ensures .1)
 
 end-line-requires : tie.Need-end-line-requires
 end-line-requires c κs =
-    let p = c .before .before .before .before .before .before .before .before .before .before .before .before .before .before .before .before .before .before .before .before .before .before .before .before .before .pre in
-    let ea = rw (c .before .before .before .before .before .before .before .before .before .before .before .before .before .before .before .before .before .before .before .before .a .given .1) at (c .before .before .before .before .before .before .before .before .before .before .before .before .before .before .before .before .before .before .before .before .before .before .next-term .ensures) in
+    let pre = c .before .before .before .before .before .before .before .before .before .before .before .before .before .before .before .before .before .before .before .before .before .before .before .before .before .pre in
+    let next-term = c .before .before .before .before .before .before .before .before .before .before .before .before .before .before .before .before .before .before .before .before .before .before .next-term in
+    let the-a = c .before .before .before .before .before .before .before .before .before .before .before .before .before .before .before .before .before .before .before .before .a in
+    let next-integer = c .before .before .before .before .before .before .before .before .before .before .before .before .before .before .before .before .before .before .next-integer in
+    let the-b = c .before .before .before .before .before .before .before .before .before .before .before .before .before .before .before .before .b in
+    let begin-with = c .before .before .before .before .before .before .before .before .before .before .before .before .before .begin-with in
+    let put = c .before .before .before .before .before .before .before .before .before .put in
+    let counted = c .before .before .before .before .before .counted in
+    let p = pre in
+    let ea = rw (the-a .given .1) at (next-term .ensures) in
     let fa = nextTerm-far _ _ .ends _ _ ea in
-    let eb = rw (c .before .before .before .before .before .before .before .before .before .before .before .before .before .before .before .before .b .given .1) at (c .before .before .before .before .before .before .before .before .before .before .before .before .before .before .before .before .before .before .next-integer .ensures) in
+    let eb = rw (the-b .given .1) at (next-integer .ensures) in
     let fb = nextInteger-far _ _ _ _ .ends _ _ eb in
-    let nbeginwith = c .before .before .before .before .before .before .before .before .before .before .before .before .before .begin-with .ensures .1 in
-    let nput = c .before .before .before .before .before .before .before .before .before .put .ensures .1 in
-    let rt = rw (c .before .t .given .1) at (c .before .before .before .before .before .counted .ensures .1) in
+    let nbeginwith = begin-with .ensures .1 in
+    let nput = put .ensures .1 in
+    let rt = rw (c .before .t .given .1) at (counted .ensures .1) in
     omega arith
 
 same-length-2 : tie.Need-same-length-2
-same-length-2 c = c .before .before .before .before .before .before .counted .kept .1 .1 .1 .1 .1 .0 ∙ c .before .before .before .before .before .before .before .before .before .before .put .kept .0 ∙ c .before .before .before .before .before .before .before .before .before .before .before .before .before .before .begin-with .kept .0
+same-length-2 c =
+    let begin-with = c .before .before .before .before .before .before .before .before .before .before .before .before .before .before .begin-with in
+    let put = c .before .before .before .before .before .before .before .before .before .before .put in
+    let counted = c .before .before .before .before .before .before .counted in
+    counted .kept .1 .1 .1 .1 .1 .0 ∙ put .kept .0 ∙ begin-with .kept .0
 
 returns-4 : tie.Need-returns-4
 unfolding compoundLine
 returns-4 c =
-    let wt = wrote listed _ _ _ (rw (c .before .before .t .given .1) at (c .before .before .before .before .before .before .counted .ensures .0)) in
-    let ea = rw (c .before .before .before .before .before .before .before .before .before .before .before .before .before .before .before .before .before .before .before .before .before .a .given .1) at (c .before .before .before .before .before .before .before .before .before .before .before .before .before .before .before .before .before .before .before .before .before .before .before .next-term .ensures) in
-    let eb = rw (c .before .before .before .before .before .before .before .before .before .before .before .before .before .before .before .before .before .b .given .1) at (c .before .before .before .before .before .before .before .before .before .before .before .before .before .before .before .before .before .before .before .next-integer .ensures) in (
-      rw (← (c .before .before .before .before .before .before .before .before .before .before .before .before .before .before .before .before .before .before .before .before .before .before .before .next-term .ensures), c .before .before .before .before .before .before .before .before .before .before .before .before .before .before .before .before .before .before .before .before .before .a .given .1, ← (c .before .before .before .before .before .before .before .before .before .before .before .before .before .before .before .before .before .before .before .next-integer .ensures), c .before .before .before .before .before .before .before .before .before .before .before .before .before .before .before .before .before .b .given .1, wt .is) (c .end-line .ensures .0 _ ∙ line-ends _ _ _ _ _ _ _
-          (on-more _ _ _ (listed (wt .value)) (on-more _ _ _ (_ ∷ []) (on-more _ _ _ (_ ∷ _ ∷ _ ∷ []) (on-start _ _) (c .before .before .before .before .before .before .before .before .before .before .before .before .before .before .begin-with .ensures .0) (c .before .before .before .before .before .before .before .before .before .before .before .before .before .before .begin-with .ensures .1)) (c .before .before .before .before .before .before .before .before .before .before .put .ensures .0) (c .before .before .before .before .before .before .before .before .before .before .put .ensures .1)) (wt .tape) (wt .next))
+    let next-term = c .before .before .before .before .before .before .before .before .before .before .before .before .before .before .before .before .before .before .before .before .before .before .before .next-term in
+    let the-a = c .before .before .before .before .before .before .before .before .before .before .before .before .before .before .before .before .before .before .before .before .before .a in
+    let next-integer = c .before .before .before .before .before .before .before .before .before .before .before .before .before .before .before .before .before .before .before .next-integer in
+    let the-b = c .before .before .before .before .before .before .before .before .before .before .before .before .before .before .before .before .before .b in
+    let begin-with = c .before .before .before .before .before .before .before .before .before .before .before .before .before .before .begin-with in
+    let put = c .before .before .before .before .before .before .before .before .before .before .put in
+    let counted = c .before .before .before .before .before .before .counted in
+    let wt = wrote listed _ _ _ (rw (c .before .before .t .given .1) at (counted .ensures .0)) in
+    let ea = rw (the-a .given .1) at (next-term .ensures) in
+    let eb = rw (the-b .given .1) at (next-integer .ensures) in (
+      rw (← (next-term .ensures), the-a .given .1, ← (next-integer .ensures), the-b .given .1, wt .is) (c .end-line .ensures .0 _ ∙ line-ends _ _ _ _ _ _ _
+          (on-more _ _ _ (listed (wt .value)) (on-more _ _ _ (_ ∷ []) (on-more _ _ _ (_ ∷ _ ∷ _ ∷ []) (on-start _ _) (begin-with .ensures .0) (begin-with .ensures .1)) (put .ensures .0) (put .ensures .1)) (wt .tape) (wt .next))
           (rw (integer-forth _ _ _ _ _ _ eb))),
       c .end-line .ensures .1,
     )

@@ -76,11 +76,18 @@ same-length c = c .before .before .counted .kept .1 .1 .1 .1 .1 .0 ∙ c .before
 
 returns-3 : tie.Need-returns-3
 unfolding front
-returns-3 c = (
-  rw (← (c .before .before .before .before .before .before .before .before .before .before .before .before .before .before .before .before .before .before .before .next-atom .ensures), c .before .before .before .before .before .before .before .before .before .before .before .before .before .before .before .before .before .a .given .1, ← (c .before .before .before .before .before .before .before .before .before .before .before .before .before .before .before .next-term .ensures), c .before .before .before .before .before .before .before .before .before .before .before .before .before .b .given .1) (c .before .before .counted .ensures .0 ∙ front-ends _ _ _ _ _ _ _
-      (on-more _ _ _ (_ ∷ []) (on-more _ _ _ (_ ∷ _ ∷ _ ∷ []) (on-start _ _) (c .before .before .before .before .before .before .before .before .before .before .begin-with .ensures .0) (c .before .before .before .before .before .before .before .before .before .before .begin-with .ensures .1)) (c .before .before .before .before .before .before .put .ensures .0) (c .before .before .before .before .before .before .put .ensures .1))),
-  c .before .before .counted .ensures .1,
-)
+returns-3 c =
+    let next-atom = c .before .before .before .before .before .before .before .before .before .before .before .before .before .before .before .before .before .before .before .next-atom in
+    let the-a = c .before .before .before .before .before .before .before .before .before .before .before .before .before .before .before .before .before .a in
+    let next-term = c .before .before .before .before .before .before .before .before .before .before .before .before .before .before .before .next-term in
+    let the-b = c .before .before .before .before .before .before .before .before .before .before .before .before .before .b in
+    let begin-with = c .before .before .before .before .before .before .before .before .before .before .begin-with in
+    let put = c .before .before .before .before .before .before .put in
+    let counted = c .before .before .counted in (
+      rw (← (next-atom .ensures), the-a .given .1, ← (next-term .ensures), the-b .given .1) (counted .ensures .0 ∙ front-ends _ _ _ _ _ _ _
+          (on-more _ _ _ (_ ∷ []) (on-more _ _ _ (_ ∷ _ ∷ _ ∷ []) (on-start _ _) (begin-with .ensures .0) (begin-with .ensures .1)) (put .ensures .0) (put .ensures .1))),
+      counted .ensures .1,
+    )
 
 pub front-spec : {M : Type 1} → statement M
 front-spec =

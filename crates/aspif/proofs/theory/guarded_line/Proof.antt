@@ -49,7 +49,10 @@ same-length-2 c = c .before .before .before .before .before .before .before .bef
 returns-2 : tie.Need-returns-2
 unfolding guardedLine
 returns-2 c =
-    let wt = wrote (frontWords 96 (c .before .before .before .before .before .before .before .before .before .before .before .before .before .args .place)) _ _ _ (rw (c .before .before .before .before .before .t .given .1) at (c .before .before .before .before .before .before .before .before .before .front .ensures .0)) in
+    let args = c .before .before .before .before .before .before .before .before .before .before .before .before .before .args in
+    let front = c .before .before .before .before .before .before .before .before .before .front in
+    let the-t = c .before .before .before .before .before .t in
+    let wt = wrote (frontWords 96 (args .place)) _ _ _ (rw (the-t .given .1) at (front .ensures .0)) in
     (rw (c .refusal .ensures, wt .is, ← (c .before .before .before .next-term .ensures), c .before .enum-told2 .given .1) (on-fault _ _ _ _ _), tt)
 
 next-term-requires-2 : tie.Need-next-term-requires-2
@@ -70,8 +73,13 @@ same-length-3 c = c .before .before .before .before .before .before .before .bef
 returns-3 : tie.Need-returns-3
 unfolding guardedLine
 returns-3 c =
-    let wt = wrote (frontWords 96 (c .before .before .before .before .before .before .before .before .before .before .before .before .before .before .before .before .before .args .place)) _ _ _ (rw (c .before .before .before .before .before .before .before .before .before .t .given .1) at (c .before .before .before .before .before .before .before .before .before .before .before .before .before .front .ensures .0)) in
-    (rw (c .refusal2 .ensures, wt .is, ← (c .before .before .before .before .before .before .before .next-term .ensures), c .before .before .before .before .before .a .given .1, ← (c .before .before .before .next-term2 .ensures), c .before .enum-told3 .given .1) (on-fault _ _ _ _ _), tt)
+    let args = c .before .before .before .before .before .before .before .before .before .before .before .before .before .before .before .before .before .args in
+    let front = c .before .before .before .before .before .before .before .before .before .before .before .before .before .front in
+    let the-t = c .before .before .before .before .before .before .before .before .before .t in
+    let next-term = c .before .before .before .before .before .before .before .next-term in
+    let the-a = c .before .before .before .before .before .a in
+    let wt = wrote (frontWords 96 (args .place)) _ _ _ (rw (the-t .given .1) at (front .ensures .0)) in
+    (rw (c .refusal2 .ensures, wt .is, ← (next-term .ensures), the-a .given .1, ← (c .before .before .before .next-term2 .ensures), c .before .enum-told3 .given .1) (on-fault _ _ _ _ _), tt)
 
 put-requires : tie.Need-put-requires
 put-requires c κs =
@@ -85,36 +93,64 @@ put-requires c κs =
 
 put-requires-2 : tie.Need-put-requires-2
 put-requires-2 c κs =
-    let p = c .before .before .before .before .before .before .before .before .before .before .before .before .before .before .before .before .before .before .before .before .before .before .pre in
-    let rt = rw (c .before .before .before .before .before .before .before .before .before .before .before .before .before .before .t .given .1) at (c .before .before .before .before .before .before .before .before .before .before .before .before .before .before .before .before .before .before .front .ensures .1) in
-    let ea = rw (c .before .before .before .before .before .before .before .before .before .before .a .given .1) at (c .before .before .before .before .before .before .before .before .before .before .before .before .next-term .ensures) in
+    let pre = c .before .before .before .before .before .before .before .before .before .before .before .before .before .before .before .before .before .before .before .before .before .before .pre in
+    let front = c .before .before .before .before .before .before .before .before .before .before .before .before .before .before .before .before .before .before .front in
+    let the-t = c .before .before .before .before .before .before .before .before .before .before .before .before .before .before .t in
+    let next-term = c .before .before .before .before .before .before .before .before .before .before .before .before .next-term in
+    let the-a = c .before .before .before .before .before .before .before .before .before .before .a in
+    let next-term2 = c .before .before .before .before .before .before .before .before .next-term2 in
+    let the-b = c .before .before .before .before .before .before .b in
+    let put = c .before .before .before .put in
+    let p = pre in
+    let rt = rw (the-t .given .1) at (front .ensures .1) in
+    let ea = rw (the-a .given .1) at (next-term .ensures) in
     let fa = nextTerm-far _ _ .ends _ _ ea in
-    let eb = rw (c .before .before .before .before .before .before .b .given .1) at (c .before .before .before .before .before .before .before .before .next-term2 .ensures) in
+    let eb = rw (the-b .given .1) at (next-term2 .ensures) in
     let fb = nextTerm-far _ _ .ends _ _ eb in
-    let nput = c .before .before .before .put .ensures .1 in
-    rw (c .before .before .before .put .kept .0 ∙ c .before .before .before .before .before .before .before .before .before .before .before .before .before .before .before .before .before .before .front .kept .1 .1 .1 .1 .0) (omega arith)
+    let nput = put .ensures .1 in
+    rw (put .kept .0 ∙ front .kept .1 .1 .1 .1 .0) (omega arith)
 
 end-line-requires : tie.Need-end-line-requires
 end-line-requires c κs =
-    let p = c .before .before .before .before .before .before .before .before .before .before .before .before .before .before .before .before .before .before .before .before .before .before .before .before .before .pre in
-    let rt = rw (c .before .before .before .before .before .before .before .before .before .before .before .before .before .before .before .before .before .t .given .1) at (c .before .before .before .before .before .before .before .before .before .before .before .before .before .before .before .before .before .before .before .before .before .front .ensures .1) in
-    let ea = rw (c .before .before .before .before .before .before .before .before .before .before .before .before .before .a .given .1) at (c .before .before .before .before .before .before .before .before .before .before .before .before .before .before .before .next-term .ensures) in
+    let pre = c .before .before .before .before .before .before .before .before .before .before .before .before .before .before .before .before .before .before .before .before .before .before .before .before .before .pre in
+    let front = c .before .before .before .before .before .before .before .before .before .before .before .before .before .before .before .before .before .before .before .before .before .front in
+    let the-t = c .before .before .before .before .before .before .before .before .before .before .before .before .before .before .before .before .before .t in
+    let next-term = c .before .before .before .before .before .before .before .before .before .before .before .before .before .before .before .next-term in
+    let the-a = c .before .before .before .before .before .before .before .before .before .before .before .before .before .a in
+    let next-term2 = c .before .before .before .before .before .before .before .before .before .before .before .next-term2 in
+    let the-b = c .before .before .before .before .before .before .before .before .before .b in
+    let put = c .before .before .before .before .before .before .put in
+    let p = pre in
+    let rt = rw (the-t .given .1) at (front .ensures .1) in
+    let ea = rw (the-a .given .1) at (next-term .ensures) in
     let fa = nextTerm-far _ _ .ends _ _ ea in
-    let eb = rw (c .before .before .before .before .before .before .before .before .before .b .given .1) at (c .before .before .before .before .before .before .before .before .before .before .before .next-term2 .ensures) in
+    let eb = rw (the-b .given .1) at (next-term2 .ensures) in
     let fb = nextTerm-far _ _ .ends _ _ eb in
-    let nput = c .before .before .before .before .before .before .put .ensures .1 in
+    let nput = put .ensures .1 in
     let nput2 = c .before .before .put2 .ensures .1 in
     omega arith
 
 same-length-4 : tie.Need-same-length-4
-same-length-4 c = c .before .before .before .put2 .kept .0 ∙ c .before .before .before .before .before .before .before .put .kept .0 ∙ c .before .before .before .before .before .before .before .before .before .before .before .before .before .before .before .before .before .before .before .before .before .before .front .kept .1 .1 .1 .1 .0
+same-length-4 c =
+    let front = c .before .before .before .before .before .before .before .before .before .before .before .before .before .before .before .before .before .before .before .before .before .before .front in
+    let put = c .before .before .before .before .before .before .before .put in
+    c .before .before .before .put2 .kept .0 ∙ put .kept .0 ∙ front .kept .1 .1 .1 .1 .0
 
 returns-4 : tie.Need-returns-4
 unfolding guardedLine
 returns-4 c =
-    let wt = wrote (frontWords 96 (c .before .before .before .before .before .before .before .before .before .before .before .before .before .before .before .before .before .before .before .before .before .before .before .before .before .before .args .place)) _ _ _ (rw (c .before .before .before .before .before .before .before .before .before .before .before .before .before .before .before .before .before .before .t .given .1) at (c .before .before .before .before .before .before .before .before .before .before .before .before .before .before .before .before .before .before .before .before .before .before .front .ensures .0)) in (
-      rw (wt .is, ← (c .before .before .before .before .before .before .before .before .before .before .before .before .before .before .before .before .next-term .ensures), c .before .before .before .before .before .before .before .before .before .before .before .before .before .before .a .given .1, ← (c .before .before .before .before .before .before .before .before .before .before .before .before .next-term2 .ensures), c .before .before .before .before .before .before .before .before .before .before .b .given .1) (c .end-line .ensures .0 _ ∙ line-ends _ _ _ _ _ _ _
-          (on-more _ _ _ (_ ∷ []) (on-more _ _ _ (_ ∷ []) (on-more _ _ _ (frontWords 96 (c .before .before .before .before .before .before .before .before .before .before .before .before .before .before .before .before .before .before .before .before .before .before .before .before .before .before .args .place) (wt .value)) (on-start _ _) (wt .tape) (wt .next)) (c .before .before .before .before .before .before .before .put .ensures .0) (c .before .before .before .before .before .before .before .put .ensures .1)) (c .before .before .before .put2 .ensures .0) (c .before .before .before .put2 .ensures .1))
+    let args = c .before .before .before .before .before .before .before .before .before .before .before .before .before .before .before .before .before .before .before .before .before .before .before .before .before .before .args in
+    let front = c .before .before .before .before .before .before .before .before .before .before .before .before .before .before .before .before .before .before .before .before .before .before .front in
+    let the-t = c .before .before .before .before .before .before .before .before .before .before .before .before .before .before .before .before .before .before .t in
+    let next-term = c .before .before .before .before .before .before .before .before .before .before .before .before .before .before .before .before .next-term in
+    let the-a = c .before .before .before .before .before .before .before .before .before .before .before .before .before .before .a in
+    let next-term2 = c .before .before .before .before .before .before .before .before .before .before .before .before .next-term2 in
+    let the-b = c .before .before .before .before .before .before .before .before .before .before .b in
+    let put = c .before .before .before .before .before .before .before .put in
+    let put2 = c .before .before .before .put2 in
+    let wt = wrote (frontWords 96 (args .place)) _ _ _ (rw (the-t .given .1) at (front .ensures .0)) in (
+      rw (wt .is, ← (next-term .ensures), the-a .given .1, ← (next-term2 .ensures), the-b .given .1) (c .end-line .ensures .0 _ ∙ line-ends _ _ _ _ _ _ _
+          (on-more _ _ _ (_ ∷ []) (on-more _ _ _ (_ ∷ []) (on-more _ _ _ (frontWords 96 (args .place) (wt .value)) (on-start _ _) (wt .tape) (wt .next)) (put .ensures .0) (put .ensures .1)) (put2 .ensures .0) (put2 .ensures .1))
           (rw append-assoc)),
       c .end-line .ensures .1,
     )

@@ -79,10 +79,16 @@ same-length c = c .before .before .before .put .kept .0 ∙ c .before .before .b
 returns-3 : tie.Need-returns-3
 unfolding numericLine
 returns-3 c =
-    let ea = rw (c .before .before .before .before .before .before .before .before .before .before .before .before .before .before .a .given .1) at (c .before .before .before .before .before .before .before .before .before .before .before .before .before .before .before .before .next-term .ensures) in
-    let eb = rw (c .before .before .before .before .before .before .before .before .before .before .b .given .1) at (c .before .before .before .before .before .before .before .before .before .before .before .before .next-integer .ensures) in (
-      rw (← (c .before .before .before .before .before .before .before .before .before .before .before .before .before .before .before .before .next-term .ensures), c .before .before .before .before .before .before .before .before .before .before .before .before .before .before .a .given .1, ← (c .before .before .before .before .before .before .before .before .before .before .before .before .next-integer .ensures), c .before .before .before .before .before .before .before .before .before .before .b .given .1) (c .end-line .ensures .0 _ ∙ line-ends _ _ _ _ _ _ _
-          (on-more _ _ _ (_ ∷ []) (on-more _ _ _ (_ ∷ _ ∷ _ ∷ []) (on-start _ _) (c .before .before .before .before .before .before .before .begin-with .ensures .0) (c .before .before .before .before .before .before .before .begin-with .ensures .1)) (c .before .before .before .put .ensures .0) (c .before .before .before .put .ensures .1))
+    let next-term = c .before .before .before .before .before .before .before .before .before .before .before .before .before .before .before .before .next-term in
+    let the-a = c .before .before .before .before .before .before .before .before .before .before .before .before .before .before .a in
+    let next-integer = c .before .before .before .before .before .before .before .before .before .before .before .before .next-integer in
+    let the-b = c .before .before .before .before .before .before .before .before .before .before .b in
+    let begin-with = c .before .before .before .before .before .before .before .begin-with in
+    let put = c .before .before .before .put in
+    let ea = rw (the-a .given .1) at (next-term .ensures) in
+    let eb = rw (the-b .given .1) at (next-integer .ensures) in (
+      rw (← (next-term .ensures), the-a .given .1, ← (next-integer .ensures), the-b .given .1) (c .end-line .ensures .0 _ ∙ line-ends _ _ _ _ _ _ _
+          (on-more _ _ _ (_ ∷ []) (on-more _ _ _ (_ ∷ _ ∷ _ ∷ []) (on-start _ _) (begin-with .ensures .0) (begin-with .ensures .1)) (put .ensures .0) (put .ensures .1))
           (rw (integer-forth _ _ _ _ _ _ eb))),
       c .end-line .ensures .1,
     )

@@ -75,18 +75,30 @@ same-length c = c .before .before .before .before .listed .kept .1 .1 .1 .1 .0 �
 returns-3 : tie.Need-returns-3
 unfolding stringLine string
 returns-3 c =
-    let qt = stopped listed _ _ _ (rw (c .enum-told3 .given .1) at (c .before .before .before .before .listed .ensures .0)) in
-    (rw (c .enum-told3 .given .1, ← (c .before .before .before .before .before .before .before .before .before .before .before .before .before .before .before .before .before .next-term .ensures), c .before .before .before .before .before .before .before .before .before .before .before .before .before .before .before .a .given .1, ← (c .before .before .before .before .before .before .before .before .before .before .before .before .before .string-length .ensures), c .before .before .before .before .before .before .before .before .before .before .before .b .given .1, qt) (on-fault _ _ _ _ _), c .before .before .before .before .listed .ensures .1)
+    let next-term = c .before .before .before .before .before .before .before .before .before .before .before .before .before .before .before .before .before .next-term in
+    let the-a = c .before .before .before .before .before .before .before .before .before .before .before .before .before .before .before .a in
+    let string-length = c .before .before .before .before .before .before .before .before .before .before .before .before .before .string-length in
+    let the-b = c .before .before .before .before .before .before .before .before .before .before .before .b in
+    let the-listed = c .before .before .before .before .listed in
+    let qt = stopped listed _ _ _ (rw (c .enum-told3 .given .1) at (the-listed .ensures .0)) in
+    (rw (c .enum-told3 .given .1, ← (next-term .ensures), the-a .given .1, ← (string-length .ensures), the-b .given .1, qt) (on-fault _ _ _ _ _), the-listed .ensures .1)
 
 end-line-requires : tie.Need-end-line-requires
 end-line-requires c κs =
-    let p = c .before .before .before .before .before .before .before .before .before .before .before .before .before .before .before .before .before .before .before .before .before .pre in
-    let ea = rw (c .before .before .before .before .before .before .before .before .before .before .before .before .before .before .before .before .a .given .1) at (c .before .before .before .before .before .before .before .before .before .before .before .before .before .before .before .before .before .before .next-term .ensures) in
+    let pre = c .before .before .before .before .before .before .before .before .before .before .before .before .before .before .before .before .before .before .before .before .before .pre in
+    let next-term = c .before .before .before .before .before .before .before .before .before .before .before .before .before .before .before .before .before .before .next-term in
+    let the-a = c .before .before .before .before .before .before .before .before .before .before .before .before .before .before .before .before .a in
+    let string-length = c .before .before .before .before .before .before .before .before .before .before .before .before .before .before .string-length in
+    let the-b = c .before .before .before .before .before .before .before .before .before .before .before .before .b in
+    let begin-with = c .before .before .before .before .before .before .before .before .before .begin-with in
+    let listed = c .before .before .before .before .before .listed in
+    let p = pre in
+    let ea = rw (the-a .given .1) at (next-term .ensures) in
     let fa = nextTerm-far _ _ .ends _ _ ea in
-    let eb = rw (c .before .before .before .before .before .before .before .before .before .before .before .before .b .given .1) at (c .before .before .before .before .before .before .before .before .before .before .before .before .before .before .string-length .ensures) in
+    let eb = rw (the-b .given .1) at (string-length .ensures) in
     let fb = stringLength-far _ _ .ends _ _ eb in
-    let nbeginwith = c .before .before .before .before .before .before .before .before .before .begin-with .ensures .1 in
-    let rt = rw (c .before .t .given .1) at (c .before .before .before .before .before .listed .ensures .1) in
+    let nbeginwith = begin-with .ensures .1 in
+    let rt = rw (c .before .t .given .1) at (listed .ensures .1) in
     omega arith
 
 same-length-2 : tie.Need-same-length-2
@@ -95,9 +107,15 @@ same-length-2 c = c .before .before .before .before .before .before .listed .kep
 returns-4 : tie.Need-returns-4
 unfolding stringLine string
 returns-4 c =
-    let wt = wrote listed _ _ _ (rw (c .before .before .t .given .1) at (c .before .before .before .before .before .before .listed .ensures .0)) in (
-      rw (← (c .before .before .before .before .before .before .before .before .before .before .before .before .before .before .before .before .before .before .before .next-term .ensures), c .before .before .before .before .before .before .before .before .before .before .before .before .before .before .before .before .before .a .given .1, ← (c .before .before .before .before .before .before .before .before .before .before .before .before .before .before .before .string-length .ensures), c .before .before .before .before .before .before .before .before .before .before .before .before .before .b .given .1, wt .is) (c .end-line .ensures .0 _ ∙ line-ends _ _ _ _ _ _ _
-          (on-more _ _ _ (listed (wt .value)) (on-more _ _ _ (_ ∷ _ ∷ _ ∷ []) (on-start _ _) (c .before .before .before .before .before .before .before .before .before .before .begin-with .ensures .0) (c .before .before .before .before .before .before .before .before .before .before .begin-with .ensures .1)) (wt .tape) (wt .next))
+    let next-term = c .before .before .before .before .before .before .before .before .before .before .before .before .before .before .before .before .before .before .before .next-term in
+    let the-a = c .before .before .before .before .before .before .before .before .before .before .before .before .before .before .before .before .before .a in
+    let string-length = c .before .before .before .before .before .before .before .before .before .before .before .before .before .before .before .string-length in
+    let the-b = c .before .before .before .before .before .before .before .before .before .before .before .before .before .b in
+    let begin-with = c .before .before .before .before .before .before .before .before .before .before .begin-with in
+    let the-listed = c .before .before .before .before .before .before .listed in
+    let wt = wrote listed _ _ _ (rw (c .before .before .t .given .1) at (the-listed .ensures .0)) in (
+      rw (← (next-term .ensures), the-a .given .1, ← (string-length .ensures), the-b .given .1, wt .is) (c .end-line .ensures .0 _ ∙ line-ends _ _ _ _ _ _ _
+          (on-more _ _ _ (listed (wt .value)) (on-more _ _ _ (_ ∷ _ ∷ _ ∷ []) (on-start _ _) (begin-with .ensures .0) (begin-with .ensures .1)) (wt .tape) (wt .next))
           refl),
       c .end-line .ensures .1,
     )

@@ -33,7 +33,12 @@ same-length-3 c = search needs
 
 returns-3 : tie.Need-returns-3
 unfolding theoryOf
-returns-3 c = (rw (ne-eqb _ _ (c .before .before .before .before .before .before .if1 .left), ne-eqb _ _ (c .before .before .before .before .before .if2 .left), eq-eqb _ _ (c .before .before .before .before .if3 .taken)) (c .before .before .compound-line .ensures .0), c .before .before .compound-line .ensures .1)
+returns-3 c =
+    let if1 = c .before .before .before .before .before .before .if1 in
+    let if2 = c .before .before .before .before .before .if2 in
+    let if3 = c .before .before .before .before .if3 in
+    let compound-line = c .before .before .compound-line in
+    (rw (ne-eqb _ _ (if1 .left), ne-eqb _ _ (if2 .left), eq-eqb _ _ (if3 .taken)) (compound-line .ensures .0), compound-line .ensures .1)
 
 element-line-requires : tie.Need-element-line-requires
 element-line-requires c κs = search needs
@@ -43,7 +48,13 @@ same-length-4 c = search needs
 
 returns-4 : tie.Need-returns-4
 unfolding theoryOf
-returns-4 c = (rw (ne-eqb _ _ (c .before .before .before .before .before .before .before .if1 .left), ne-eqb _ _ (c .before .before .before .before .before .before .if2 .left), ne-eqb _ _ (c .before .before .before .before .before .if3 .left), eq-eqb _ _ (c .before .before .before .before .if4 .taken)) (c .before .before .element-line .ensures .0), c .before .before .element-line .ensures .1)
+returns-4 c =
+    let if1 = c .before .before .before .before .before .before .before .if1 in
+    let if2 = c .before .before .before .before .before .before .if2 in
+    let if3 = c .before .before .before .before .before .if3 in
+    let if4 = c .before .before .before .before .if4 in
+    let element-line = c .before .before .element-line in
+    (rw (ne-eqb _ _ (if1 .left), ne-eqb _ _ (if2 .left), ne-eqb _ _ (if3 .left), eq-eqb _ _ (if4 .taken)) (element-line .ensures .0), element-line .ensures .1)
 
 theory-line-requires : tie.Need-theory-line-requires
 theory-line-requires c κs = search needs
@@ -53,7 +64,14 @@ same-length-5 c = search needs
 
 returns-5 : tie.Need-returns-5
 unfolding theoryOf
-returns-5 c = (rw (ne-eqb _ _ (c .before .before .before .before .before .before .before .before .if1 .left), ne-eqb _ _ (c .before .before .before .before .before .before .before .if2 .left), ne-eqb _ _ (c .before .before .before .before .before .before .if3 .left), ne-eqb _ _ (c .before .before .before .before .before .if4 .left), eq-eqb _ _ (c .before .before .before .before .if5 .taken)) (c .before .before .theory-line .ensures .0), c .before .before .theory-line .ensures .1)
+returns-5 c =
+    let if1 = c .before .before .before .before .before .before .before .before .if1 in
+    let if2 = c .before .before .before .before .before .before .before .if2 in
+    let if3 = c .before .before .before .before .before .before .if3 in
+    let if4 = c .before .before .before .before .before .if4 in
+    let if5 = c .before .before .before .before .if5 in
+    let theory-line = c .before .before .theory-line in
+    (rw (ne-eqb _ _ (if1 .left), ne-eqb _ _ (if2 .left), ne-eqb _ _ (if3 .left), ne-eqb _ _ (if4 .left), eq-eqb _ _ (if5 .taken)) (theory-line .ensures .0), theory-line .ensures .1)
 
 guarded-line-requires : tie.Need-guarded-line-requires
 guarded-line-requires c κs = search needs
@@ -63,7 +81,14 @@ same-length-6 c = search needs
 
 returns-6 : tie.Need-returns-6
 unfolding theoryOf
-returns-6 c = (rw (ne-eqb _ _ (c .before .before .before .before .before .before .before .before .if1 .left), ne-eqb _ _ (c .before .before .before .before .before .before .before .if2 .left), ne-eqb _ _ (c .before .before .before .before .before .before .if3 .left), ne-eqb _ _ (c .before .before .before .before .before .if4 .left), ne-eqb _ _ (c .before .before .before .before .if5 .left)) (c .before .before .guarded-line .ensures .0), c .before .before .guarded-line .ensures .1)
+returns-6 c =
+    let if1 = c .before .before .before .before .before .before .before .before .if1 in
+    let if2 = c .before .before .before .before .before .before .before .if2 in
+    let if3 = c .before .before .before .before .before .before .if3 in
+    let if4 = c .before .before .before .before .before .if4 in
+    let if5 = c .before .before .before .before .if5 in
+    let guarded-line = c .before .before .guarded-line in
+    (rw (ne-eqb _ _ (if1 .left), ne-eqb _ _ (if2 .left), ne-eqb _ _ (if3 .left), ne-eqb _ _ (if4 .left), ne-eqb _ _ (if5 .left)) (guarded-line .ensures .0), guarded-line .ensures .1)
 
 pub theory-of-spec : {M : Type 1} → statement M
 theory-of-spec =

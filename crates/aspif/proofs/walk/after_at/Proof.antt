@@ -69,7 +69,14 @@ behind-at-requires-5 : tie.Need-behind-at-requires-5
 behind-at-requires-5 c κs = search needs
 
 returns-9 : tie.Need-returns-9
-returns-9 c = c .behind-at5 .ensures .0 ∙ after-comment _ _ _ (c .before .before .before .before .before .before .before .before .before .word-at .ensures .0) (c .before .before .before .before .before .before .before .before .if1 .left) (c .before .before .before .before .before .before .before .if2 .left) (c .before .before .before .before .before .before .if3 .left) (c .before .before .before .before .before .if4 .left) (c .before .before .before .before .if5 .left) (c .before .before .before .if6 .left) (c .before .before .if7 .left) (c .before .if8 .left)
+returns-9 c =
+    let word-at = c .before .before .before .before .before .before .before .before .before .word-at in
+    let if1 = c .before .before .before .before .before .before .before .before .if1 in
+    let if2 = c .before .before .before .before .before .before .before .if2 in
+    let if3 = c .before .before .before .before .before .before .if3 in
+    let if4 = c .before .before .before .before .before .if4 in
+    let if5 = c .before .before .before .before .if5 in
+    c .behind-at5 .ensures .0 ∙ after-comment _ _ _ (word-at .ensures .0) (if1 .left) (if2 .left) (if3 .left) (if4 .left) (if5 .left) (c .before .before .before .if6 .left) (c .before .before .if7 .left) (c .before .if8 .left)
 
 pub after-at-spec : {M : Type 1} → statement M
 after-at-spec =

@@ -33,8 +33,11 @@ enum-told c = search needs
 
 returns : tie.Need-returns Inv-loop μ-loop
 returns c =
+    let args = c .before .before .before .before .before .before .before .before .args in
+    let loop = c .before .before .before .before .before .loop in
+    let loop-test = c .before .before .before .before .loop-test in
     let b = rw (c .enum-told .given .1) at (c .before .before .byte .ensures) in
-    rw (c .enum-told .given .1) (word-stop (c .before .before .before .before .before .before .before .before .args .word .now) (c .before .before .before .before .before .loop .i) _ _ _ _ (c .before .before .before .before .loop-test .taken) b ∙ c .before .before .before .before .before .loop .inv .0)
+    rw (c .enum-told .given .1) (word-stop (args .word .now) (loop .i) _ _ _ _ (loop-test .taken) b ∙ loop .inv .0)
 
 add-i : tie.Need-add-i Inv-loop μ-loop
 add-i c = search needs
@@ -44,8 +47,11 @@ loop-less c = search needs
 
 loop-again : tie.Need-loop-again Inv-loop μ-loop
 loop-again c =
+    let args = c .before .before .before .before .before .before .before .before .before .args in
+    let loop = c .before .before .before .before .before .before .loop in
+    let loop-test = c .before .before .before .before .before .loop-test in
     let b = rw (c .before .a .given .1) at (c .before .before .before .byte .ensures) in
-    (word-more (c .before .before .before .before .before .before .before .before .before .args .word .now) (c .before .before .before .before .before .before .loop .i) _ _ _ (c .before .before .before .before .before .loop-test .taken) b ∙ c .before .before .before .before .before .before .loop .inv .0, positive-more _ _ (c .before .before .before .before .before .loop-test .taken) (c .before .before .before .before .before .before .loop .inv .1) .1)
+    (word-more (args .word .now) (loop .i) _ _ _ (loop-test .taken) b ∙ loop .inv .0, positive-more _ _ (loop-test .taken) (loop .inv .1) .1)
 
 returns-2 : tie.Need-returns-2 Inv-loop μ-loop
 returns-2 c = word-out _ _ _ _ (c .loop-test .left) ∙ c .before .loop .inv .0

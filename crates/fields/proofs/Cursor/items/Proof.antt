@@ -46,7 +46,10 @@ same-length : tie.Need-same-length Inv-loop μ-loop
 same-length c = search needs
 
 returns : tie.Need-returns Inv-loop μ-loop
-returns c = (rw (c .refusal .ensures, c .before .enum-told .given .1) (items-stop _ _ _ _ _ _ _ _ (c .before .before .before .before .loop-test .taken) (sym (ap asWord (c .before .enum-told .given .1)) ∙ c .before .before .before .item .ensures)) ∙ c .before .before .before .before .before .loop .inv .0, tt)
+returns c =
+    let loop = c .before .before .before .before .before .loop in
+    let loop-test = c .before .before .before .before .loop-test in
+    (rw (c .refusal .ensures, c .before .enum-told .given .1) (items-stop _ _ _ _ _ _ _ _ (loop-test .taken) (sym (ap asWord (c .before .enum-told .given .1)) ∙ c .before .before .before .item .ensures)) ∙ loop .inv .0, tt)
 
 mul-tape : tie.Need-mul-tape Inv-loop μ-loop
 mul-tape c = omega (arith, ahead c)

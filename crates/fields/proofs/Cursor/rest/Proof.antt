@@ -26,8 +26,11 @@ same-length c = search needs
 returns : tie.Need-returns
 unfolding rest
 returns c =
-    let e : c .before .before .before .before .rest-end .result - c .before .before .before .before .before .before .before .args .self .at ≡ plain (c .before .before .before .before .before .before .before .args .s .now) (c .before .before .before .before .before .before .before .args .self .at) = omega arith in
-    (rw (← e) (c .before .before .listed .ensures .0), c .before .before .listed .ensures .1)
+    let args = c .before .before .before .before .before .before .before .args in
+    let rest-end = c .before .before .before .before .rest-end in
+    let listed = c .before .before .listed in
+    let e : rest-end .result - args .self .at ≡ plain (args .s .now) (args .self .at) = omega arith in
+    (rw (← e) (listed .ensures .0), listed .ensures .1)
 
 pub rest-spec : {M : Type 1} → statement M
 rest-spec =

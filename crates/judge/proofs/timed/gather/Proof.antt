@@ -89,7 +89,11 @@ loop-less-2 : tie.Need-loop-less-2 Inv-loop μ-loop
 loop-less-2 c = search needs
 
 loop-again-2 : tie.Need-loop-again-2 Inv-loop μ-loop
-loop-again-2 c = going-take _ _ _ _ _ _ _ _ _ _ _ _ (c .before .before .before .before .before .before .before .loop .inv) (c .before .before .before .before .before .before .loop-test .taken) (c .before .before .before .before .before .before .before .before .pre .0 .0 .few) (c .before .before .before .if1 .left) _ (search needs)
+loop-again-2 c =
+    let pre = c .before .before .before .before .before .before .before .before .pre in
+    let loop = c .before .before .before .before .before .before .before .loop in
+    let loop-test = c .before .before .before .before .before .before .loop-test in
+    going-take _ _ _ _ _ _ _ _ _ _ _ _ (loop .inv) (loop-test .taken) (pre .0 .0 .few) (c .before .before .before .if1 .left) _ (search needs)
 
 same-length : tie.Need-same-length Inv-loop μ-loop
 same-length c = search needs

@@ -41,10 +41,18 @@ loop-less-2 : tie.Need-loop-less-2 Inv-loop μ-loop
 loop-less-2 c = search needs
 
 loop-again-2 : tie.Need-loop-again-2 Inv-loop μ-loop
-loop-again-2 c = late-time (c .before .before .before .before .before .before .args .names .now) (c .before .before .before .before .before .before .args .times .now) (c .before .before .before .before .before .loop .i) (c .before .before .before .before .loop-test .taken) (c .before .before .if1 .left) (c .if2 .taken) ∙ (c .before .before .before .before .before .loop .inv)
+loop-again-2 c =
+    let args = c .before .before .before .before .before .before .args in
+    let loop = c .before .before .before .before .before .loop in
+    let loop-test = c .before .before .before .before .loop-test in
+    late-time (args .names .now) (args .times .now) (loop .i) (loop-test .taken) (c .before .before .if1 .left) (c .if2 .taken) ∙ (loop .inv)
 
 returns : tie.Need-returns Inv-loop μ-loop
-returns c = late-found (c .before .before .before .before .before .before .args .names .now) (c .before .before .before .before .before .before .args .times .now) (c .before .before .before .before .before .loop .i) (c .before .before .before .before .loop-test .taken) (c .before .before .if1 .left) (c .if2 .left) ∙ (c .before .before .before .before .before .loop .inv)
+returns c =
+    let args = c .before .before .before .before .before .before .args in
+    let loop = c .before .before .before .before .before .loop in
+    let loop-test = c .before .before .before .before .loop-test in
+    late-found (args .names .now) (args .times .now) (loop .i) (loop-test .taken) (c .before .before .if1 .left) (c .if2 .left) ∙ (loop .inv)
 
 returns-2 : tie.Need-returns-2 Inv-loop μ-loop
 returns-2 c = late-end (c .before .before .args .names .now) (c .before .before .args .times .now) (c .before .loop .i) (c .loop-test .left) ∙ (c .before .loop .inv)

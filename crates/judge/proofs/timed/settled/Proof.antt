@@ -25,7 +25,10 @@ slice-aggregate-written : tie.Need-slice-aggregate-written
 slice-aggregate-written c = search needs
 
 written-requires : tie.Need-written-requires
-written-requires c κs = earliest-writable _ _ _ _ (c .before .before .before .before .before .before .before .before .before .before .before .before .before .before .before .before .before .pre .0 .0) _ _ _ _ (times-of _ _ _ _ _ _ _ (c .before .before .before .before .before .before .before .decide .ensures) (c .before .before .enum-told .given .1) .earliest) (c .before .before .before .before .before .before .before .before .before .before .before .before .before .before .before .before .before .pre .0 .1) (c .before .before .before .before .before .before .before .decide .kept .1 .1 .1 .1 .0 ∙ length-replicate {A = ℕ} 1024 0) (c .before .before .before .before .before .before .before .before .before .before .before .before .before .before .before .before .before .pre .1 .0) (c .before .before .before .before .before .before .before .before .before .before .before .before .before .before .before .before .before .pre .1 .1 .bytes)
+written-requires c κs =
+    let pre = c .before .before .before .before .before .before .before .before .before .before .before .before .before .before .before .before .before .pre in
+    let decide = c .before .before .before .before .before .before .before .decide in
+    earliest-writable _ _ _ _ (pre .0 .0) _ _ _ _ (times-of _ _ _ _ _ _ _ (decide .ensures) (c .before .before .enum-told .given .1) .earliest) (pre .0 .1) (decide .kept .1 .1 .1 .1 .0 ∙ length-replicate {A = ℕ} 1024 0) (pre .1 .0) (pre .1 .1 .bytes)
 
 same-length : tie.Need-same-length
 same-length c = search needs

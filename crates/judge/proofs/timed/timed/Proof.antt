@@ -39,34 +39,49 @@ array-share-prefix-ls : tie.Need-array-share-prefix-ls
 array-share-prefix-ls c = search needs
 
 slice-aggregate-settled : tie.Need-slice-aggregate-settled
-slice-aggregate-settled c = part-long {A = ℕ} 0 _ _ _ (c .before .before .before .before .before .gather .kept .1 .1 .1 .1 .1 .1 .0) (c .before .before .before .before .before .gather .ensures .few) (c .before .before .before .before .before .before .before .before .before .before .before .before .before .before .before .before .before .before .before .pre .0 .0 .few)
+slice-aggregate-settled c =
+    let pre = c .before .before .before .before .before .before .before .before .before .before .before .before .before .before .before .before .before .before .before .pre in
+    let gather = c .before .before .before .before .before .gather in
+    part-long {A = ℕ} 0 _ _ _ (gather .kept .1 .1 .1 .1 .1 .1 .0) (gather .ensures .few) (pre .0 .0 .few)
 
 array-share-prefix-us : tie.Need-array-share-prefix-us
 array-share-prefix-us c = search needs
 
 slice-aggregate-settled-2 : tie.Need-slice-aggregate-settled-2
-slice-aggregate-settled-2 c = part-long {A = ℕ} 0 _ _ _ (c .before .before .before .before .before .before .gather .kept .1 .1 .1 .1 .1 .1 .1 .0) (c .before .before .before .before .before .before .gather .ensures .few) (c .before .before .before .before .before .before .before .before .before .before .before .before .before .before .before .before .before .before .before .before .pre .0 .0 .few)
+slice-aggregate-settled-2 c =
+    let pre = c .before .before .before .before .before .before .before .before .before .before .before .before .before .before .before .before .before .before .before .before .pre in
+    let gather = c .before .before .before .before .before .before .gather in
+    part-long {A = ℕ} 0 _ _ _ (gather .kept .1 .1 .1 .1 .1 .1 .1 .0) (gather .ensures .few) (pre .0 .0 .few)
 
 array-share-prefix-vs : tie.Need-array-share-prefix-vs
 array-share-prefix-vs c = search needs
 
 slice-aggregate-settled-3 : tie.Need-slice-aggregate-settled-3
-slice-aggregate-settled-3 c = part-long {A = ℕ} 0 _ _ _ (c .before .before .before .before .before .before .before .gather .kept .1 .1 .1 .1 .1 .1 .1 .1 .0) (c .before .before .before .before .before .before .before .gather .ensures .few) (c .before .before .before .before .before .before .before .before .before .before .before .before .before .before .before .before .before .before .before .before .before .pre .0 .0 .few)
+slice-aggregate-settled-3 c =
+    let pre = c .before .before .before .before .before .before .before .before .before .before .before .before .before .before .before .before .before .before .before .before .before .pre in
+    let gather = c .before .before .before .before .before .before .before .gather in
+    part-long {A = ℕ} 0 _ _ _ (gather .kept .1 .1 .1 .1 .1 .1 .1 .1 .0) (gather .ensures .few) (pre .0 .0 .few)
 
 array-share-prefix-ws : tie.Need-array-share-prefix-ws
 array-share-prefix-ws c = search needs
 
 slice-aggregate-settled-4 : tie.Need-slice-aggregate-settled-4
-slice-aggregate-settled-4 c = part-long (pos 0) _ _ _ (c .before .before .before .before .before .before .before .before .gather .kept .1 .1 .1 .1 .1 .1 .1 .1 .1 .0) (c .before .before .before .before .before .before .before .before .gather .ensures .few) (c .before .before .before .before .before .before .before .before .before .before .before .before .before .before .before .before .before .before .before .before .before .before .pre .0 .0 .few)
+slice-aggregate-settled-4 c =
+    let pre = c .before .before .before .before .before .before .before .before .before .before .before .before .before .before .before .before .before .before .before .before .before .before .pre in
+    let gather = c .before .before .before .before .before .before .before .before .gather in
+    part-long (pos 0) _ _ _ (gather .kept .1 .1 .1 .1 .1 .1 .1 .1 .1 .0) (gather .ensures .few) (pre .0 .0 .few)
 
 slice-aggregate-settled-5 : tie.Need-slice-aggregate-settled-5
 slice-aggregate-settled-5 c = search needs
 
 settled-requires : tie.Need-settled-requires
 settled-requires c κs =
-    let g = c .before .before .before .before .before .before .before .before .before .before .before .gather in
-    let p = c .before .before .before .before .before .before .before .before .before .before .before .before .before .before .before .before .before .before .before .before .before .before .before .before .before .pre in
-    ((gathered-labelled _ _ _ _ _ (p .0 .0) _ (p .0 .1) _ _ _ _ _ (g .ensures) (kept-places (g .kept .1 .1 .1 .1 .1 .1 .0) (g .kept .1 .1 .1 .1 .1 .1 .1 .0) (g .kept .1 .1 .1 .1 .1 .1 .1 .1 .0) (g .kept .1 .1 .1 .1 .1 .1 .1 .1 .1 .0)), c .before .before .before .before .before .before .before .before .before .before .before .before .before .before .before .before .before .mark-names .kept .1 .1 .1 .0 ∙ length-replicate {A = ℕ} 1024 0), (p .0 .1, p .1))
+    let pre = c .before .before .before .before .before .before .before .before .before .before .before .before .before .before .before .before .before .before .before .before .before .before .before .before .before .pre in
+    let mark-names = c .before .before .before .before .before .before .before .before .before .before .before .before .before .before .before .before .before .mark-names in
+    let gather = c .before .before .before .before .before .before .before .before .before .before .before .gather in
+    let g = gather in
+    let p = pre in
+    ((gathered-labelled _ _ _ _ _ (p .0 .0) _ (p .0 .1) _ _ _ _ _ (g .ensures) (kept-places (g .kept .1 .1 .1 .1 .1 .1 .0) (g .kept .1 .1 .1 .1 .1 .1 .1 .0) (g .kept .1 .1 .1 .1 .1 .1 .1 .1 .0) (g .kept .1 .1 .1 .1 .1 .1 .1 .1 .1 .0)), mark-names .kept .1 .1 .1 .0 ∙ length-replicate {A = ℕ} 1024 0), (p .0 .1, p .1))
 
 same-length : tie.Need-same-length
 same-length c = search needs
@@ -76,9 +91,13 @@ same-length-2 c = search needs
 
 returns : tie.Need-returns
 returns c =
-    let g = c .before .before .before .before .before .before .before .before .before .before .before .before .before .before .before .before .gather in
-    let p = c .before .before .before .before .before .before .before .before .before .before .before .before .before .before .before .before .before .before .before .before .before .before .before .before .before .before .before .before .before .before .pre in
-    λ ls h. settled-timed ls _ _ _ _ _ h _ (p .0 .1) _ _ _ _ _ (g .ensures) _ (c .before .before .before .before .before .before .before .before .before .before .before .before .before .before .before .before .before .before .before .before .before .before .mark-names .ensures) _ _ _ (sym (part-long (pos 0) _ _ _ (g .kept .1 .1 .1 .1 .1 .1 .1 .1 .1 .0) (g .ensures .few) (p .0 .0 .few))) (c .before .before .before .before .settled .ensures)
+    let pre = c .before .before .before .before .before .before .before .before .before .before .before .before .before .before .before .before .before .before .before .before .before .before .before .before .before .before .before .before .before .before .pre in
+    let mark-names = c .before .before .before .before .before .before .before .before .before .before .before .before .before .before .before .before .before .before .before .before .before .before .mark-names in
+    let gather = c .before .before .before .before .before .before .before .before .before .before .before .before .before .before .before .before .gather in
+    let settled = c .before .before .before .before .settled in
+    let g = gather in
+    let p = pre in
+    λ ls h. settled-timed ls _ _ _ _ _ h _ (p .0 .1) _ _ _ _ _ (g .ensures) _ (mark-names .ensures) _ _ _ (sym (part-long (pos 0) _ _ _ (g .kept .1 .1 .1 .1 .1 .1 .1 .1 .1 .0) (g .ensures .few) (p .0 .0 .few))) (settled .ensures)
 
 pub timed-spec : {M : Type 1} → statement M
 timed-spec =

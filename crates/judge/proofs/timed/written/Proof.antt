@@ -17,7 +17,9 @@ refusal-requires : tie.Need-refusal-requires
 refusal-requires c κs = search needs
 
 returns : tie.Need-returns
-returns c = λ cycle. refused-late (c .before .before .before .before .before .before .before .before .args .names .now) (c .before .before .before .before .before .before .before .before .args .times .now) (c .before .before .before .before .before .before .before .before .args .x .now) (c .before .before .before .before .before .before .before .before .args .room .now) _ (c .before .before .before .late .ensures) cycle _ _ (c .before .enum-told2 .given .1) (c .refusal .ensures)
+returns c =
+    let args = c .before .before .before .before .before .before .before .before .args in
+    λ cycle. refused-late (args .names .now) (args .times .now) (args .x .now) (args .room .now) _ (c .before .before .before .late .ensures) cycle _ _ (c .before .enum-told2 .given .1) (c .refusal .ensures)
 
 write-requires : tie.Need-write-requires
 write-requires c κs = search needs

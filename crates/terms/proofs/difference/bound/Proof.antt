@@ -48,10 +48,25 @@ against-requires : tie.Need-against-requires
 against-requires c κs = search needs
 
 returns-5 : tie.Need-returns-5
-returns-5 c = c .against .ensures ∙ bound-minus _ _ _ (c .before .before .before .before .before .before .before .before .before .before .before .if1 .left) _ (c .before .before .before .before .before .before .before .before .before .before .word-at .ensures .0) (c .before .before .before .before .before .before .before .before .before .if2 .left) (c .before .before .before .before .before .before .before .before .if3 .left) _ (c .before .before .before .before .before .before .before .word-at3 .ensures .0) (c .before .before .before .before .before .before .if4 .left) _ (c .before .before .before .before .before .word-at4 .ensures .0) _ (c .before .before .before .before .is-minus .ensures) _ _ (c .before .before .before .if5 .taken) (c .before .before .word-at5 .ensures .0) (c .before .term-entry .ensures)
+returns-5 c =
+    let if1 = c .before .before .before .before .before .before .before .before .before .before .before .if1 in
+    let word-at = c .before .before .before .before .before .before .before .before .before .before .word-at in
+    let if2 = c .before .before .before .before .before .before .before .before .before .if2 in
+    let if3 = c .before .before .before .before .before .before .before .before .if3 in
+    let word-at3 = c .before .before .before .before .before .before .before .word-at3 in
+    let if4 = c .before .before .before .before .before .before .if4 in
+    let word-at4 = c .before .before .before .before .before .word-at4 in
+    let is-minus = c .before .before .before .before .is-minus in
+    c .against .ensures ∙ bound-minus _ _ _ (if1 .left) _ (word-at .ensures .0) (if2 .left) (if3 .left) _ (word-at3 .ensures .0) (if4 .left) _ (word-at4 .ensures .0) _ (is-minus .ensures) _ _ (c .before .before .before .if5 .taken) (c .before .before .word-at5 .ensures .0) (c .before .term-entry .ensures)
 
 returns-6 : tie.Need-returns-6
-returns-6 c = bound-other _ _ _ (c .before .before .before .before .before .before .before .before .if1 .left) _ (c .before .before .before .before .before .before .before .word-at .ensures .0) (c .before .before .before .before .before .before .if2 .left) (c .before .before .before .before .before .if3 .left) _ (c .before .before .before .before .word-at3 .ensures .0) (c .before .before .before .if4 .left) _ (c .before .before .word-at4 .ensures .0) _ (c .before .is-minus .ensures) (c .if5 .left)
+returns-6 c =
+    let if1 = c .before .before .before .before .before .before .before .before .if1 in
+    let word-at = c .before .before .before .before .before .before .before .word-at in
+    let if2 = c .before .before .before .before .before .before .if2 in
+    let if3 = c .before .before .before .before .before .if3 in
+    let word-at3 = c .before .before .before .before .word-at3 in
+    bound-other _ _ _ (if1 .left) _ (word-at .ensures .0) (if2 .left) (if3 .left) _ (word-at3 .ensures .0) (c .before .before .before .if4 .left) _ (c .before .before .word-at4 .ensures .0) _ (c .before .is-minus .ensures) (c .if5 .left)
 
 pub bound-spec : {M : Type 1} → statement M
 bound-spec =

@@ -45,13 +45,36 @@ inside-requires : tie.Need-inside-requires
 inside-requires c κs = search needs
 
 returns-3 : tie.Need-returns-3
-returns-3 c = c .inside .ensures ∙ diff-is _ _ _ _ _ (c .before .before .before .before .before .before .before .before .before .before .before .before .before .before .word-at .ensures .0) (c .before .before .before .before .before .before .before .before .before .before .before .before .before .if1 .left) _ (c .before .before .before .before .before .before .before .before .before .before .before .before .word-at2 .ensures .0) (c .before .before .before .before .before .before .before .before .before .before .before .if2 .left) _ (c .before .before .before .before .before .before .before .before .before .before .word-at3 .ensures .0) _ (c .before .before .before .before .before .before .before .before .named .ensures) (c .before .before .before .before .before .before .before .if3 .taken) _ (c .before .before .before .before .before .before .word-at4 .ensures .0) _ (c .before .before .before .before .named2 .ensures) _ _ (c .before .before .before .if4 .taken) (c .before .before .word-at5 .ensures .0) (c .before .word-at6 .ensures .0)
+returns-3 c =
+    let word-at = c .before .before .before .before .before .before .before .before .before .before .before .before .before .before .word-at in
+    let if1 = c .before .before .before .before .before .before .before .before .before .before .before .before .before .if1 in
+    let word-at2 = c .before .before .before .before .before .before .before .before .before .before .before .before .word-at2 in
+    let if2 = c .before .before .before .before .before .before .before .before .before .before .before .if2 in
+    let word-at3 = c .before .before .before .before .before .before .before .before .before .before .word-at3 in
+    let named = c .before .before .before .before .before .before .before .before .named in
+    let if3 = c .before .before .before .before .before .before .before .if3 in
+    let word-at4 = c .before .before .before .before .before .before .word-at4 in
+    let named2 = c .before .before .before .before .named2 in
+    c .inside .ensures ∙ diff-is _ _ _ _ _ (word-at .ensures .0) (if1 .left) _ (word-at2 .ensures .0) (if2 .left) _ (word-at3 .ensures .0) _ (named .ensures) (if3 .taken) _ (word-at4 .ensures .0) _ (named2 .ensures) _ _ (c .before .before .before .if4 .taken) (c .before .before .word-at5 .ensures .0) (c .before .word-at6 .ensures .0)
 
 returns-4 : tie.Need-returns-4
-returns-4 c = diff-guard _ _ _ _ _ (c .before .before .before .before .before .before .before .before .before .before .before .word-at .ensures .0) (c .before .before .before .before .before .before .before .before .before .before .if1 .left) _ (c .before .before .before .before .before .before .before .before .before .word-at2 .ensures .0) (c .before .before .before .before .before .before .before .before .if2 .left) _ (c .before .before .before .before .before .before .before .word-at3 .ensures .0) _ (c .before .before .before .before .before .named .ensures) (c .before .before .before .before .if3 .taken) _ (c .before .before .before .word-at4 .ensures .0) _ (c .before .named2 .ensures) (c .if4 .left)
+returns-4 c =
+    let word-at = c .before .before .before .before .before .before .before .before .before .before .before .word-at in
+    let if1 = c .before .before .before .before .before .before .before .before .before .before .if1 in
+    let word-at2 = c .before .before .before .before .before .before .before .before .before .word-at2 in
+    let if2 = c .before .before .before .before .before .before .before .before .if2 in
+    let word-at3 = c .before .before .before .before .before .before .before .word-at3 in
+    let named = c .before .before .before .before .before .named in
+    let if3 = c .before .before .before .before .if3 in
+    diff-guard _ _ _ _ _ (word-at .ensures .0) (if1 .left) _ (word-at2 .ensures .0) (if2 .left) _ (word-at3 .ensures .0) _ (named .ensures) (if3 .taken) _ (c .before .before .before .word-at4 .ensures .0) _ (c .before .named2 .ensures) (c .if4 .left)
 
 returns-5 : tie.Need-returns-5
-returns-5 c = diff-named _ _ _ _ _ (c .before .before .before .before .before .before .before .word-at .ensures .0) (c .before .before .before .before .before .before .if1 .left) _ (c .before .before .before .before .before .word-at2 .ensures .0) (c .before .before .before .before .if2 .left) _ (c .before .before .before .word-at3 .ensures .0) _ (c .before .named .ensures) (c .if3 .left)
+returns-5 c =
+    let word-at = c .before .before .before .before .before .before .before .word-at in
+    let if1 = c .before .before .before .before .before .before .if1 in
+    let word-at2 = c .before .before .before .before .before .word-at2 in
+    let if2 = c .before .before .before .before .if2 in
+    diff-named _ _ _ _ _ (word-at .ensures .0) (if1 .left) _ (word-at2 .ensures .0) (if2 .left) _ (c .before .before .before .word-at3 .ensures .0) _ (c .before .named .ensures) (c .if3 .left)
 
 pub difference-spec : {M : Type 1} → statement M
 difference-spec =

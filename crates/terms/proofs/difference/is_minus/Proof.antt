@@ -16,7 +16,9 @@ named-requires : tie.Need-named-requires
 named-requires c κs = search needs
 
 returns : tie.Need-returns
-returns c = c .named .ensures ∙ minus-term (lookIn (c .before .before .before .before .before .before .args .tape .now) (c .before .before .before .before .before .before .args .terms .now)) (c .before .before .before .before .before .before .args .t) _ (c .before .before .before .is-term .ensures) (c .before .before .if1 .taken)
+returns c =
+    let args = c .before .before .before .before .before .before .args in
+    c .named .ensures ∙ minus-term (lookIn (args .tape .now) (args .terms .now)) (args .t) _ (c .before .before .before .is-term .ensures) (c .before .before .if1 .taken)
 
 returns-2 : tie.Need-returns-2
 returns-2 c = minus-other (lookIn (c .before .before .before .before .args .tape .now) (c .before .before .before .before .args .terms .now)) (c .before .before .before .before .args .t) _ (c .before .is-term .ensures) (c .if1 .left)

@@ -33,7 +33,12 @@ pair-requires : tie.Need-pair-requires
 pair-requires c κs = search needs
 
 returns-4 : tie.Need-returns-4
-returns-4 c = c .pair .ensures ∙ in-is _ _ _ (c .before .before .before .before .before .before .before .if1 .left) _ (c .before .before .before .before .before .before .word-at .ensures .0) (c .before .before .before .before .before .if2 .left) _ (c .before .before .before .before .word-at2 .ensures .0) _ _ (c .before .before .before .if3 .left) (c .before .before .word-at3 .ensures .0) (c .before .term-entry .ensures)
+returns-4 c =
+    let if1 = c .before .before .before .before .before .before .before .if1 in
+    let word-at = c .before .before .before .before .before .before .word-at in
+    let if2 = c .before .before .before .before .before .if2 in
+    let word-at2 = c .before .before .before .before .word-at2 in
+    c .pair .ensures ∙ in-is _ _ _ (if1 .left) _ (word-at .ensures .0) (if2 .left) _ (word-at2 .ensures .0) _ _ (c .before .before .before .if3 .left) (c .before .before .word-at3 .ensures .0) (c .before .term-entry .ensures)
 
 pub pair-in-spec : {M : Type 1} → statement M
 pair-in-spec =

@@ -25,10 +25,16 @@ all-known-requires : tie.Need-all-known-requires
 all-known-requires c κs = search needs
 
 returns-2 : tie.Need-returns-2
-returns-2 c = λ seen. sym (ap not (c .if2 .taken)) ∙ element-uses _ _ _ seen _ _ _ (c .before .before .before .before .before .word-at .ensures .0) (c .before .before .before .before .element-entry .ensures) _ _ (c .before .before .before .if1 .left) (c .before .before .word-at2 .ensures .0) (c .before .all-known .ensures)
+returns-2 c =
+    let word-at = c .before .before .before .before .before .word-at in
+    let element-entry = c .before .before .before .before .element-entry in
+    λ seen. sym (ap not (c .if2 .taken)) ∙ element-uses _ _ _ seen _ _ _ (word-at .ensures .0) (element-entry .ensures) _ _ (c .before .before .before .if1 .left) (c .before .before .word-at2 .ensures .0) (c .before .all-known .ensures)
 
 returns-3 : tie.Need-returns-3
-returns-3 c = λ seen. sym (ap not (c .if2 .left)) ∙ element-uses _ _ _ seen _ _ _ (c .before .before .before .before .before .word-at .ensures .0) (c .before .before .before .before .element-entry .ensures) _ _ (c .before .before .before .if1 .left) (c .before .before .word-at2 .ensures .0) (c .before .all-known .ensures)
+returns-3 c =
+    let word-at = c .before .before .before .before .before .word-at in
+    let element-entry = c .before .before .before .before .element-entry in
+    λ seen. sym (ap not (c .if2 .left)) ∙ element-uses _ _ _ seen _ _ _ (word-at .ensures .0) (element-entry .ensures) _ _ (c .before .before .before .if1 .left) (c .before .before .word-at2 .ensures .0) (c .before .all-known .ensures)
 
 pub bad-element-spec : {M : Type 1} → statement M
 bad-element-spec =

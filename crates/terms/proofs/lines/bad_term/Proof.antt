@@ -40,13 +40,37 @@ all-known-requires : tie.Need-all-known-requires
 all-known-requires c κs = search needs
 
 returns-4 : tie.Need-returns-4
-returns-4 c = λ els seen. sym (ap not (c .if5 .taken)) ∙ term-args _ _ els seen _ _ _ (c .before .before .before .before .before .before .before .before .before .before .before .word-at .ensures .0) (c .before .before .before .before .before .before .before .before .before .before .term-entry .ensures) (c .before .before .before .before .before .before .before .before .before .if1 .left) _ (c .before .before .before .before .before .before .before .before .word-at2 .ensures .0) (c .before .before .before .before .before .before .before .if2 .left) (c .before .before .before .before .before .before .if3 .left) _ (c .before .before .before .before .before .word-at3 .ensures .0) _ (c .before .before .before .before .functor-known .ensures) _ _ (c .before .before .before .if4 .taken) (c .before .before .word-at4 .ensures .0) (c .before .all-known .ensures)
+returns-4 c =
+    let word-at = c .before .before .before .before .before .before .before .before .before .before .before .word-at in
+    let term-entry = c .before .before .before .before .before .before .before .before .before .before .term-entry in
+    let if1 = c .before .before .before .before .before .before .before .before .before .if1 in
+    let word-at2 = c .before .before .before .before .before .before .before .before .word-at2 in
+    let if2 = c .before .before .before .before .before .before .before .if2 in
+    let if3 = c .before .before .before .before .before .before .if3 in
+    let word-at3 = c .before .before .before .before .before .word-at3 in
+    let functor-known = c .before .before .before .before .functor-known in
+    λ els seen. sym (ap not (c .if5 .taken)) ∙ term-args _ _ els seen _ _ _ (word-at .ensures .0) (term-entry .ensures) (if1 .left) _ (word-at2 .ensures .0) (if2 .left) (if3 .left) _ (word-at3 .ensures .0) _ (functor-known .ensures) _ _ (c .before .before .before .if4 .taken) (c .before .before .word-at4 .ensures .0) (c .before .all-known .ensures)
 
 returns-5 : tie.Need-returns-5
-returns-5 c = λ els seen. sym (ap not (c .if5 .left)) ∙ term-args _ _ els seen _ _ _ (c .before .before .before .before .before .before .before .before .before .before .before .word-at .ensures .0) (c .before .before .before .before .before .before .before .before .before .before .term-entry .ensures) (c .before .before .before .before .before .before .before .before .before .if1 .left) _ (c .before .before .before .before .before .before .before .before .word-at2 .ensures .0) (c .before .before .before .before .before .before .before .if2 .left) (c .before .before .before .before .before .before .if3 .left) _ (c .before .before .before .before .before .word-at3 .ensures .0) _ (c .before .before .before .before .functor-known .ensures) _ _ (c .before .before .before .if4 .taken) (c .before .before .word-at4 .ensures .0) (c .before .all-known .ensures)
+returns-5 c =
+    let word-at = c .before .before .before .before .before .before .before .before .before .before .before .word-at in
+    let term-entry = c .before .before .before .before .before .before .before .before .before .before .term-entry in
+    let if1 = c .before .before .before .before .before .before .before .before .before .if1 in
+    let word-at2 = c .before .before .before .before .before .before .before .before .word-at2 in
+    let if2 = c .before .before .before .before .before .before .before .if2 in
+    let if3 = c .before .before .before .before .before .before .if3 in
+    let word-at3 = c .before .before .before .before .before .word-at3 in
+    let functor-known = c .before .before .before .before .functor-known in
+    λ els seen. sym (ap not (c .if5 .left)) ∙ term-args _ _ els seen _ _ _ (word-at .ensures .0) (term-entry .ensures) (if1 .left) _ (word-at2 .ensures .0) (if2 .left) (if3 .left) _ (word-at3 .ensures .0) _ (functor-known .ensures) _ _ (c .before .before .before .if4 .taken) (c .before .before .word-at4 .ensures .0) (c .before .all-known .ensures)
 
 returns-6 : tie.Need-returns-6
-returns-6 c = λ els seen. term-functor _ _ els seen _ _ _ (c .before .before .before .before .before .before .before .before .word-at .ensures .0) (c .before .before .before .before .before .before .before .term-entry .ensures) (c .before .before .before .before .before .before .if1 .left) _ (c .before .before .before .before .before .word-at2 .ensures .0) (c .before .before .before .before .if2 .left) (c .before .before .before .if3 .left) _ (c .before .before .word-at3 .ensures .0) _ (c .before .functor-known .ensures) (c .if4 .left)
+returns-6 c =
+    let word-at = c .before .before .before .before .before .before .before .before .word-at in
+    let term-entry = c .before .before .before .before .before .before .before .term-entry in
+    let if1 = c .before .before .before .before .before .before .if1 in
+    let word-at2 = c .before .before .before .before .before .word-at2 in
+    let if2 = c .before .before .before .before .if2 in
+    λ els seen. term-functor _ _ els seen _ _ _ (word-at .ensures .0) (term-entry .ensures) (if1 .left) _ (word-at2 .ensures .0) (if2 .left) (c .before .before .before .if3 .left) _ (c .before .before .word-at3 .ensures .0) _ (c .before .functor-known .ensures) (c .if4 .left)
 
 pub bad-term-spec : {M : Type 1} → statement M
 bad-term-spec =

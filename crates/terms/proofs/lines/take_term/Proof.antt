@@ -31,7 +31,12 @@ same-length-2 : tie.Need-same-length-2
 same-length-2 c = search needs
 
 returns-2 : tie.Need-returns-2
-returns-2 c = (λ els seen f ls. term-goes _ f ls _ _ els seen _ _ (c .before .before .before .before .word-at .ensures .0) _ (sym (c .before .before .before .before .before .if1 .left) ∙ c .before .before .before .before .before .before .bad-term .ensures els seen) (omega (arith, c .before .before .before .before .word-at .ensures .0, c .before .before .before .before .before .before .before .before .before .before .pre .1)) (c .before .before .put-term .ensures), λ seen h. h)
+returns-2 c =
+    let pre = c .before .before .before .before .before .before .before .before .before .before .pre in
+    let bad-term = c .before .before .before .before .before .before .bad-term in
+    let if1 = c .before .before .before .before .before .if1 in
+    let word-at = c .before .before .before .before .word-at in
+    (λ els seen f ls. term-goes _ f ls _ _ els seen _ _ (word-at .ensures .0) _ (sym (if1 .left) ∙ bad-term .ensures els seen) (omega (arith, word-at .ensures .0, pre .1)) (c .before .before .put-term .ensures), λ seen h. h)
 
 pub take-term-spec : {M : Type 1} → statement M
 take-term-spec =

@@ -23,7 +23,11 @@ same-length : tie.Need-same-length
 same-length c = search needs
 
 returns : tie.Need-returns
-returns c = free-of-heads 4097 (take (c .before .before .before .before .before .before .before .before .before .before .before .args .m) (c .before .before .before .before .before .before .before .before .before .before .before .args .atoms .now)) (c .before .before .before .before .before .before .mark-heads .last .1 .1 .0) (c .before .before .mark-free .last .1 .1 .1 .0) (headed (linesOf (c .before .before .before .before .before .before .before .before .before .before .before .args .tape .now) (c .before .before .before .before .before .before .before .before .before .before .before .args .n))) (c .before .before .before .before .before .before .mark-heads .ensures) (c .before .before .mark-free .ensures)
+returns c =
+    let args = c .before .before .before .before .before .before .before .before .before .before .before .args in
+    let mark-heads = c .before .before .before .before .before .before .mark-heads in
+    let mark-free = c .before .before .mark-free in
+    free-of-heads 4097 (take (args .m) (args .atoms .now)) (mark-heads .last .1 .1 .0) (mark-free .last .1 .1 .1 .0) (headed (linesOf (args .tape .now) (args .n))) (mark-heads .ensures) (mark-free .ensures)
 
 pub externals-spec : {M : Type 1} → statement M
 externals-spec =

@@ -36,7 +36,12 @@ loop-less : tie.Need-loop-less Inv-loop μ-loop
 loop-less c = search needs
 
 loop-again : tie.Need-loop-again Inv-loop μ-loop
-loop-again c = (free-skip 4097 (c .before .before .before .before .before .before .before .before .args .atoms .now) (c .before .before .before .before .before .before .before .before .args .bits .now) (c .before .before .before .before .loop .ext) (c .before .before .before .before .loop .i) (omega (arith, c .before .before .before .loop-test .taken, c .before .before .before .before .before .before .before .before .pre .0)) (sym (c .if1 .taken) ∙ c .before .is-marked .ensures) (c .before .before .before .before .loop .inv .0), omega (arith, c .before .before .before .loop-test .taken), c .before .before .before .before .loop .inv .2)
+loop-again c =
+    let args = c .before .before .before .before .before .before .before .before .args in
+    let pre = c .before .before .before .before .before .before .before .before .pre in
+    let loop = c .before .before .before .before .loop in
+    let loop-test = c .before .before .before .loop-test in
+    (free-skip 4097 (args .atoms .now) (args .bits .now) (loop .ext) (loop .i) (omega (arith, loop-test .taken, pre .0)) (sym (c .if1 .taken) ∙ c .before .is-marked .ensures) (loop .inv .0), omega (arith, loop-test .taken), loop .inv .2)
 
 mark-atom-requires : tie.Need-mark-atom-requires Inv-loop μ-loop
 mark-atom-requires c κs = search needs
@@ -45,7 +50,15 @@ loop-less-2 : tie.Need-loop-less-2 Inv-loop μ-loop
 loop-less-2 c = search needs
 
 loop-again-2 : tie.Need-loop-again-2 Inv-loop μ-loop
-loop-again-2 c = (free-next 4097 (c .before .before .before .before .before .before .before .before .before .before .before .before .args .atoms .now) (c .before .before .before .before .before .before .before .before .before .before .before .before .args .bits .now) (c .before .before .before .before .before .before .before .before .loop .ext) (c .before .before .mark-atom .last .0) (c .before .before .before .before .before .before .before .before .loop .i) (omega (arith, c .before .before .before .before .before .before .before .loop-test .taken, c .before .before .before .before .before .before .before .before .before .before .before .before .pre .0)) (sym (c .before .before .before .before .if1 .left) ∙ c .before .before .before .before .before .is-marked .ensures) (c .before .before .mark-atom .ensures) (c .before .before .before .before .before .before .before .before .loop .inv .0), omega (arith, c .before .before .before .before .before .before .before .loop-test .taken), c .before .before .mark-atom .kept .0 ∙ c .before .before .before .before .before .before .before .before .loop .inv .2)
+loop-again-2 c =
+    let args = c .before .before .before .before .before .before .before .before .before .before .before .before .args in
+    let pre = c .before .before .before .before .before .before .before .before .before .before .before .before .pre in
+    let loop = c .before .before .before .before .before .before .before .before .loop in
+    let loop-test = c .before .before .before .before .before .before .before .loop-test in
+    let is-marked = c .before .before .before .before .before .is-marked in
+    let if1 = c .before .before .before .before .if1 in
+    let mark-atom = c .before .before .mark-atom in
+    (free-next 4097 (args .atoms .now) (args .bits .now) (loop .ext) (mark-atom .last .0) (loop .i) (omega (arith, loop-test .taken, pre .0)) (sym (if1 .left) ∙ is-marked .ensures) (mark-atom .ensures) (loop .inv .0), omega (arith, loop-test .taken), mark-atom .kept .0 ∙ loop .inv .2)
 
 same-length : tie.Need-same-length Inv-loop μ-loop
 same-length c = c .before .loop .inv .2

@@ -29,7 +29,14 @@ same-length : tie.Need-same-length
 same-length c = search needs
 
 returns-2 : tie.Need-returns-2
-returns-2 c = line-heads _ _ _ _ _ _ _ _ (c .before .before .before .before .before .before .before .before .before .before .before .pre .1) (c .before .before .before .before .before .before .before .before .word-at .ensures .0) (c .before .before .before .before .before .before .before .if1 .left) (c .before .before .before .before .before .before .word-at2 .ensures .0) (c .before .before .before .before .before .word-at3 .ensures .0) (c .before .before .before .before .head-count .ensures) (c .before .before .mark-list .ensures)
+returns-2 c =
+    let pre = c .before .before .before .before .before .before .before .before .before .before .before .pre in
+    let word-at = c .before .before .before .before .before .before .before .before .word-at in
+    let if1 = c .before .before .before .before .before .before .before .if1 in
+    let word-at2 = c .before .before .before .before .before .before .word-at2 in
+    let word-at3 = c .before .before .before .before .before .word-at3 in
+    let head-count = c .before .before .before .before .head-count in
+    line-heads _ _ _ _ _ _ _ _ (pre .1) (word-at .ensures .0) (if1 .left) (word-at2 .ensures .0) (word-at3 .ensures .0) (head-count .ensures) (c .before .before .mark-list .ensures)
 
 pub mark-line-spec : {M : Type 1} → statement M
 mark-line-spec =

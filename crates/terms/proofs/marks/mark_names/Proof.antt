@@ -45,7 +45,14 @@ loop-less : tie.Need-loop-less Inv-loop μ-loop
 loop-less c = search needs
 
 loop-again : tie.Need-loop-again Inv-loop μ-loop
-loop-again c = (names-next 1024 (c .before .before .before .before .before .before .before .before .before .before .before .before .before .before .before .args .xs .now) (c .before .before .before .before .before .before .before .before .before .before .before .before .before .before .before .args .ys .now) (c .before .before .before .before .before .before .before .before .before .before .before .loop .i) (c .before .before .before .before .before .before .before .before .before .before .before .loop .names) (c .before .before .before .before .before .before .before .mark-term .last .0) (c .before .before .mark-term2 .last .0) (omega (arith, c .before .before .before .before .before .before .before .before .before .before .loop-test .taken, c .before .before .before .before .before .before .before .before .before .before .before .before .before .before .before .pre .0)) (omega (arith, c .before .before .before .before .before .before .before .before .before .before .loop-test .taken, c .before .before .before .before .before .before .before .before .before .before .before .before .before .before .before .pre .1)) (c .before .before .before .before .before .before .before .before .before .before .before .loop .inv .0) (c .before .before .before .before .before .before .before .mark-term .ensures) (c .before .before .mark-term2 .ensures), omega (arith, c .before .before .before .before .before .before .before .before .before .before .loop-test .taken), c .before .before .mark-term2 .kept .0 ∙ c .before .before .before .before .before .before .before .mark-term .kept .0 ∙ c .before .before .before .before .before .before .before .before .before .before .before .loop .inv .2)
+loop-again c =
+    let args = c .before .before .before .before .before .before .before .before .before .before .before .before .before .before .before .args in
+    let pre = c .before .before .before .before .before .before .before .before .before .before .before .before .before .before .before .pre in
+    let loop = c .before .before .before .before .before .before .before .before .before .before .before .loop in
+    let loop-test = c .before .before .before .before .before .before .before .before .before .before .loop-test in
+    let mark-term = c .before .before .before .before .before .before .before .mark-term in
+    let mark-term2 = c .before .before .mark-term2 in
+    (names-next 1024 (args .xs .now) (args .ys .now) (loop .i) (loop .names) (mark-term .last .0) (mark-term2 .last .0) (omega (arith, loop-test .taken, pre .0)) (omega (arith, loop-test .taken, pre .1)) (loop .inv .0) (mark-term .ensures) (mark-term2 .ensures), omega (arith, loop-test .taken), mark-term2 .kept .0 ∙ mark-term .kept .0 ∙ loop .inv .2)
 
 same-length : tie.Need-same-length Inv-loop μ-loop
 same-length c = c .before .loop .inv .2
