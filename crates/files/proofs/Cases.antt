@@ -13,7 +13,8 @@ use Rattle.fields.specs.Fields.{byteAt, byte, field, nextNatural}
 use Rattle.fields.proofs.Naturals.{there}
 use Rattle.fields.proofs.Taping.{nextNatural-within}
 use Rattle.fields.proofs.Ahead.{nextNatural-far, byte-ahead}
-use Rattle.files.specs.Cases.{caseLength, caseOf, caseAt}
+use Rattle.files.specs.Cases.{caseLength, caseOf, caseAt, nextAt}
+use Rattle.files.specs.declared.container.Case.{Case}
 use Rattle.files.specs.declared.container.Case.the-variants.{At, Nothing}
 
 -- a length is at most 60,000, and its line ends within the container
@@ -58,3 +59,38 @@ case-in s at {name} {start} {end} = go (caseLength s from) refl
     go : (a : Reading ℕ) → a ≡ caseLength s from → At name start end ≡ caseOf s from a → goal
     go (found n l) h e = ended n l h (eqb (byteAt s (l + n)) 10) refl e
     go (fault k p) h e = let z : _≡_ {A = ℕ} 0 1 = (cc) in absurd (omega arith)
+
+-- ---- the next case
+
+module _ (s : List ℕ) where
+  -- it begins within the container or at its end
+  pub next-within : (at : ℕ) → nextAt s (caseAt s at) ≤ length s
+  next-within at = go (caseAt s at) refl
+    where
+      go : (a : Case) → a ≡ caseAt s at → nextAt s a ≤ length s
+      go (At name start end) e = omega (arith, case-in s at e)
+      go Nothing e = omega arith
+
+  -- from before the end, further on
+  pub next-further : (at : ℕ) → at < length s → at < nextAt s (caseAt s at)
+  next-further at h = go (caseAt s at) refl
+    where
+      go : (a : Case) → a ≡ caseAt s at → at < nextAt s a
+      go (At name start end) e = omega (arith, case-in s at e)
+      go Nothing e = h
+
+  -- from anywhere, no further back
+  pub next-grows : (at : ℕ) → at ≤ length s → at ≤ nextAt s (caseAt s at)
+  next-grows at h = go (caseAt s at) refl
+    where
+      go : (a : Case) → a ≡ caseAt s at → at ≤ nextAt s a
+      go (At name start end) e = omega (arith, case-in s at e)
+      go Nothing e = h
+
+  -- at the end there is none
+  pub next-end : nextAt s (caseAt s (length s)) ≡ length s
+  next-end = go (caseAt s (length s)) refl
+    where
+      go : (a : Case) → a ≡ caseAt s (length s) → nextAt s a ≡ length s
+      go (At name start end) e = absurd (omega (arith, case-in s (length s) e))
+      go Nothing e = refl

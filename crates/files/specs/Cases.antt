@@ -24,3 +24,8 @@ caseOf s name (fault k p) = Nothing
 -- the case at a place, whose name runs to the next space or line end
 unfoldable pub caseAt : List ℕ → (at : ℕ) → Case
 caseAt s at = let name = at + length (field s at) in caseOf s name (caseLength s name)
+
+-- where the next case begins: behind the line end of this one; where there is none, at the end
+abbrev pub nextAt : List ℕ → Case → ℕ
+nextAt s (At name start end) = end + 1
+nextAt s Nothing = length s

@@ -1,7 +1,9 @@
 // Runs the reader's vectors: prints what reading gives for each text of `texts` and each candidate of `candidates`:
 // `refused NUMBER PLACE`, or `read COUNT` and the words of each line, or `candidate COUNT` and the atoms.
-ghost use Prim.Native.Nat.{_≤_, _<_};
+ghost use mathlib.Core.Path.{_≡_};
+ghost use Prim.Native.Nat.{_≤_};
 ghost use lib.ListN.{length};
+ghost use Rattle.files.specs.Cases.{caseAt, nextAt};
 ghost use Rattle.aspif.specs.Words.{Within};
 use aspif::candidate::Marked;
 use aspif::candidate::candidate;
@@ -121,8 +123,7 @@ fn print_case(s: &[u8], holds: Holds)
 
 // Runs the case at a place of a container, and gives the place of the next; the end where no whole case stands.
 fn run_at(s: &[u8], at: usize, holds: Holds) -> usize
-    requires { ⌜ at < length (now s) ⌝ }
-    ensures { λ r. ⌜ (at < r) × (r ≤ length (now (s .entry))) ⌝ }
+    ensures { λ r. ⌜ r ≡ nextAt (now (s .entry)) (caseAt (now (s .entry)) at) ⌝ }
 {
     let a = case_at(s, at);
     let Case::At(name, start, end) = a else {

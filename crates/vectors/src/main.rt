@@ -1,8 +1,9 @@
 // Runs the judge's vectors: prints what judging gives for each pair of a text and a candidate of `plans`, and for two long
 // texts: the verdict, then the timetable's bytes and times, or the faulty part.
 ghost use mathlib.Core.Path.{_≡_};
-ghost use Prim.Native.Nat.{_+_, _≤_, _<_, min};
+ghost use Prim.Native.Nat.{_≤_, min};
 ghost use lib.ListN.{length};
+ghost use Rattle.files.specs.Cases.{caseAt, nextAt};
 use faults::Refusal;
 use faults::TermNo;
 use files::container::Case;
@@ -160,8 +161,7 @@ fn print_long() {
 
 // Runs the pair at a place of a container, and gives the place of the next; the end where no whole pair stands.
 fn run_at(s: &[u8], at: usize) -> usize
-    requires { ⌜ at < length (now s) ⌝ }
-    ensures { λ r. ⌜ (at < r) × (r ≤ length (now (s .entry))) ⌝ }
+    ensures { λ r. ⌜ r ≡ nextAt (now (s .entry)) (caseAt (now (s .entry)) (nextAt (now (s .entry)) (caseAt (now (s .entry)) at))) ⌝ }
 {
     let a = case_at(s, at);
     let Case::At(name, start, end) = a else {

@@ -1,7 +1,9 @@
 -- `run` ends: each case is past the one before it. Assumes nothing.
 use Prim.Native.Nat.{_≤_, _-_}
 use lib.ListN.{length}
+use native.Mathlib.Omega.{arith}
 use borrow.Author.Needs.{needs}
+use Rattle.files.proofs.Cases.{next-within, next-further}
 use Rattle.read_vectors.proofs.run.Statement.{statement}
 use Rattle.read_vectors.proofs.run.Tie as tie
 
@@ -18,10 +20,10 @@ run-at-requires : tie.Need-run-at-requires Inv-loop μ-loop
 run-at-requires c κs = search needs
 
 loop-less : tie.Need-loop-less Inv-loop μ-loop
-loop-less c = search needs
+loop-less c = omega (arith, c .run-at .ensures, next-further (c .before .before .before .before .args .s .now) (c .before .before .loop .at) (c .before .loop-test .taken), next-within (c .before .before .before .before .args .s .now) (c .before .before .loop .at))
 
 loop-again : tie.Need-loop-again Inv-loop μ-loop
-loop-again c = search needs
+loop-again c = omega (arith, c .run-at .ensures, next-within (c .before .before .before .before .args .s .now) (c .before .before .loop .at))
 
 returns : tie.Need-returns Inv-loop μ-loop
 returns c = search needs

@@ -15,7 +15,7 @@ enum-told : tie.Need-enum-told
 enum-told c = search needs
 
 returns : tie.Need-returns
-returns c = search needs
+returns c = rw (← c .before .before .case-at .ensures, c .enum-told .given .1)
 
 sub-print-name : tie.Need-sub-print-name
 sub-print-name c =
@@ -61,9 +61,7 @@ add-result c =
     search needs
 
 returns-2 : tie.Need-returns-2
-returns-2 c =
-    let h = case-in _ _ (sym (c .before .before .before .before .before .a .given .1) ∙ c .before .before .before .before .before .before .before .case-at .ensures) in
-    search needs
+returns-2 c = rw (← c .before .before .before .before .before .before .before .case-at .ensures, c .before .before .before .before .before .a .given .1)
 
 pub run-at-spec : {M : Type 1} → statement M
 run-at-spec =

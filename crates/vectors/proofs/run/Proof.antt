@@ -1,7 +1,10 @@
 -- `run` ends: each pair is past the one before it. Assumes nothing.
 use Prim.Native.Nat.{_≤_, _-_}
 use lib.ListN.{length}
+use native.Mathlib.Omega.{arith}
 use borrow.Author.Needs.{needs}
+use Rattle.files.specs.Cases.{caseAt, nextAt}
+use Rattle.files.proofs.Cases.{next-within, next-further, next-grows}
 use Rattle.vectors.proofs.run.Statement.{statement}
 use Rattle.vectors.proofs.run.Tie as tie
 
@@ -18,10 +21,16 @@ run-at-requires : tie.Need-run-at-requires Inv-loop μ-loop
 run-at-requires c κs = search needs
 
 loop-less : tie.Need-loop-less Inv-loop μ-loop
-loop-less c = search needs
+loop-less c =
+    let s = c .before .before .before .before .args .s .now in
+    let here = c .before .before .loop .at in
+    let other = nextAt s (caseAt s here) in
+    omega (arith, c .run-at .ensures, next-further s here (c .before .loop-test .taken), next-grows s other (next-within s here), next-within s other)
 
 loop-again : tie.Need-loop-again Inv-loop μ-loop
-loop-again c = search needs
+loop-again c =
+    let s = c .before .before .before .before .args .s .now in
+    omega (arith, c .run-at .ensures, next-within s (nextAt s (caseAt s (c .before .before .loop .at))))
 
 returns : tie.Need-returns Inv-loop μ-loop
 returns c = search needs

@@ -1,7 +1,7 @@
 -- `run_at`: a pair that was found stands within the container. Assumes nothing.
 use mathlib.Core.Path.{sym, _∙_}
 use borrow.Author.Needs.{needs}
-use Rattle.files.proofs.Cases.{case-in}
+use Rattle.files.proofs.Cases.{case-in, next-end}
 use Rattle.vectors.proofs.run_at.Statement.{statement}
 use Rattle.vectors.proofs.run_at.Tie as tie
 
@@ -15,7 +15,7 @@ enum-told : tie.Need-enum-told
 enum-told c = search needs
 
 returns : tie.Need-returns
-returns c = search needs
+returns c = rw (← c .before .before .case-at .ensures, c .enum-told .given .1) (sym (next-end _))
 
 add-case-at : tie.Need-add-case-at
 add-case-at c =
@@ -34,7 +34,7 @@ enum-told-2 : tie.Need-enum-told-2
 enum-told-2 c = search needs
 
 returns-2 : tie.Need-returns-2
-returns-2 c = search needs
+returns-2 c = rw (← c .before .before .before .before .before .before .case-at .ensures, c .before .before .before .before .a .given .1, ← c .before .before .case-at2 .ensures, c .enum-told2 .given .1)
 
 sub-print-name : tie.Need-sub-print-name
 sub-print-name c =
@@ -93,10 +93,7 @@ add-result c =
     search needs
 
 returns-3 : tie.Need-returns-3
-returns-3 c =
-    let h = case-in _ _ (sym (c .before .before .before .before .before .before .before .before .before .before .a .given .1) ∙ c .before .before .before .before .before .before .before .before .before .before .before .before .case-at .ensures) in
-    let k = case-in _ _ (sym (c .before .before .before .before .before .before .b .given .1) ∙ c .before .before .before .before .before .before .before .before .case-at2 .ensures) in
-    search needs
+returns-3 c = rw (← c .before .before .before .before .before .before .before .before .before .before .before .before .case-at .ensures, c .before .before .before .before .before .before .before .before .before .before .a .given .1, ← c .before .before .before .before .before .before .before .before .case-at2 .ensures, c .before .before .before .before .before .before .b .given .1)
 
 pub run-at-spec : {M : Type 1} → statement M
 run-at-spec =
