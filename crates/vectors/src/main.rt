@@ -4,6 +4,7 @@ ghost use mathlib.Core.Path.{_≡_};
 ghost use Prim.Native.Nat.{_≤_, min};
 ghost use lib.ListN.{length};
 ghost use Rattle.files.specs.Cases.{caseAt, nextAt};
+ghost use Rattle.vectors.specs.Long.{commented};
 use faults::Refusal;
 use faults::TermNo;
 use files::container::Case;
@@ -137,6 +138,7 @@ fn print_start(s: &[u8], n: usize)
 // Writes a first line and the start of a comment, and the end of the comment and the last line before place n.
 fn put_ends(text: &mut [u8], n: usize)
     requires { ⌜ (16 ≤ n) × (n ≤ length (now text)) ⌝ }
+    ensures { λ _. ⌜ now (text .exit) ≡ commented (now (text .entry)) n ⌝ }
 {
     bytes::copy(b"asp 1 0 0\n10 ", text);
     bytes::copy(b"\n0\n", &mut text[n - 3..]);
