@@ -1,17 +1,18 @@
--- What a theory atom says is what `differenceOf` finds: found is said, more lines change nothing that is said, and nothing else is said.
+-- What a theory atom says is exactly what `differenceOf` finds; more lines change nothing that is said, and nothing else is said.
 use Prim.Native.Nat.{ℕ}
 use mathlib.Core.Path.{_≡_, refl, ap, _∙_}
+use mathlib.Core.Logic.{_↔_}
 use mathlib.Core.List.{List, [], _∷_, _++_}
 use mathlib.Core.Bool.{Bool, true, false, _&&_}
 use native.Mathlib.Omega.{arith}
-use borrow.Author.Tests.{eqb-true}
+use borrow.Author.Tests.{eqb-true, eq-eqb}
 use lib.Dec.{eqb}
 use lib.IntN.{ℤ, pos, negsuc, negℤ}
 use Rattle.faults.specs.Answer.{pick}
 use Rattle.aspif.specs.Statements.{Line}
 use Rattle.diffs.specs.Diff.{Diff}
-use Rattle.terms.specs.Says.{Term, num, str, comp, Element, elem, unguarded, guard, Found, found, nothing, term, elementAt, diffWord, minus, atMost, Bound, plain, negated, Difference}
-use Rattle.terms.specs.Terms.{sameBytes, isString, isMinus, opposite, boundOf, Pair, pairOf, pairIn, joined, differenceOf}
+use Rattle.terms.specs.Says.{Term, num, str, comp, Element, elem, unguarded, guard, states, Found, found, nothing, term, elementAt, diffWord, minus, atMost, Bound, plain, negated, Difference}
+use Rattle.terms.specs.Terms.{sameBytes, isString, isMinus, opposite, boundOf, Pair, pairOf, pairIn, joined, differenceOf, known, notDifference}
 use Rattle.terms.proofs.Known.{term-append, element-append}
 
 -- ---- what a test or a search that succeeds says
@@ -216,3 +217,47 @@ said-one {ls} {p} {vs} {g} {u} {d} {e} a b = diff-eq d e (same .0) (same .1) (bo
 
     same : (d .x ≡ e .x) × (d .y ≡ e .y)
     same = (cc pairs, cc pairs)
+
+-- ---- said is found
+
+same-self : (l : List ℕ) → sameBytes l l ≡ true
+unfolding sameBytes
+same-self [] = refl
+same-self (a ∷ l) = rw (eq-eqb a a refl, same-self l)
+
+string-found : (l : List ℕ) (x : Found Term) → x ≡ found (str l) → isString l x ≡ true
+unfolding isString
+string-found l x h = rw h (same-self l)
+
+minus-found : (look : ℕ → Found Term) (t : ℕ) → look t ≡ found (str minus) → isMinus look (pos t) ≡ true
+unfolding isMinus
+minus-found look t h = string-found minus (look t) h
+
+bound-found : (ls : List Line) (u : ℕ) (k : ℤ) → Bound ls u k → boundOf (term ls) (term ls u) ≡ found k
+unfolding boundOf opposite
+bound-found ls u k (plain h) = rw h
+bound-found ls u k (negated t n j a b c e) = rw (a, minus-found (term ls) t b, c, e)
+
+pair-found : (ls : List Line) (v w t x y : ℕ) → elementAt ls v ≡ found (elem (w ∷ []) []) → term ls w ≡ found (comp (pos t) (x ∷ y ∷ [])) → term ls t ≡ found (str minus)
+    → pairIn (term ls) (elementAt ls v) ≡ found (record { x = x; y = y })
+unfolding pairIn pairOf
+pair-found ls v w t x y a b c = rw (a, b, minus-found (term ls) t c)
+
+found-said : (ls : List Line) (p : ℕ) (vs : List ℕ) (g u : ℕ) (d : Diff) → Difference ls p vs g u d → differenceOf (term ls) (elementAt ls) p vs (guard g u) ≡ found d
+unfolding differenceOf
+found-said ls p vs g u d q =
+    rw (
+      q .one,
+      string-found diffWord (term ls p) (q .named),
+      string-found atMost (term ls g) (q .order),
+      pair-found ls (q .v) (q .w) (q .t) (d .x) (d .y) (q .inside) (q .pair) (q .sign),
+      bound-found ls u (d .k) (q .bound),
+    )
+
+-- the test of refusal 6 finds a difference exactly where one is said, and that one
+pub difference-exactly : (ls : List Line) (p : ℕ) (vs : List ℕ) (g u : ℕ) (d : Diff) → (differenceOf (term ls) (elementAt ls) p vs (guard g u) ≡ found d) ↔ Difference ls p vs g u d
+difference-exactly ls p vs g u d = (said ls p vs g u d, found-said ls p vs g u d)
+
+-- so a theory atom that is a difference is not refused as none
+pub difference-taken : (ls : List Line) (a p : ℕ) (vs : List ℕ) (g u : ℕ) (d : Diff) → Difference ls p vs g u d → notDifference (known ls) (states a p vs (guard g u)) ≡ false
+difference-taken ls a p vs g u d q = rw (found-said ls p vs g u d q)

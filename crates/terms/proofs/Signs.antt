@@ -24,27 +24,21 @@ fits-neg (suc n) h = record { sfits = omega arith }
 pub back : {z : ℤ} → SFits w32 z → toZ w32 (ofZ w32 z) ≡ z
 back f = toZ-ofZ f
 
--- 0 - v does not wrap
-pub minus-fits : (z : ℤ) (v : ℕ) → v < 2147483648 → z ≡ pos v → SFits w32 (pos 0 -ℤ toZ w32 (ofZ w32 z))
-minus-fits z v h e = rw (e, back (fits-pos v h), +ℤ-idl (negℤ (pos v))) (fits-neg v h)
+-- where an integer and its negation fit, 0 less it does not wrap and is the negation
+module _ (z : ℤ) {v : ℤ} (e : z ≡ v) (f : SFits w32 v) (g : SFits w32 (negℤ v)) where
+  pub less-fits : SFits w32 (pos 0 -ℤ toZ w32 (ofZ w32 z))
+  less-fits = rw (e, back f, +ℤ-idl (negℤ v)) g
 
--- 0 - v is v negated
-pub minus-is : (z : ℤ) (v : ℕ) → v < 2147483648 → z ≡ pos v → toZ w32 (ofZ w32 (pos 0 -ℤ toZ w32 (ofZ w32 z))) ≡ negℤ (pos v)
-minus-is z v h e = rw (e, back (fits-pos v h), +ℤ-idl (negℤ (pos v)), back (fits-neg v h))
+  pub less-is : toZ w32 (ofZ w32 (pos 0 -ℤ toZ w32 (ofZ w32 z))) ≡ negℤ v
+  less-is = rw (e, back f, +ℤ-idl (negℤ v), back g)
 
--- what an even and an odd word stand for, and their negations
+-- what an even and an odd word stand for
 module _ (z : ℤ) (w : ℕ) (h : w < 4294967296) where
   pub even-is : w % 2 ≡ 0 → z ≡ pos (w / 2) → toZ w32 (ofZ w32 z) ≡ integerOf w
   even-is a e = rw (e, back (fits-pos (w / 2) (omega arith)), eq-eqb _ _ a)
 
   pub odd-is : (w % 2 ≡ 0 → ⊥) → z ≡ negℤ (pos (w / 2)) → toZ w32 (ofZ w32 z) ≡ integerOf w
   odd-is a e = rw (e, back (fits-neg (w / 2) (omega arith)), ne-eqb _ _ a)
-
-  pub even-not : w % 2 ≡ 0 → z ≡ negℤ (pos (w / 2)) → toZ w32 (ofZ w32 z) ≡ negℤ (integerOf w)
-  even-not a e = rw (e, back (fits-neg (w / 2) (omega arith)), eq-eqb _ _ a)
-
-  pub odd-not : (w % 2 ≡ 0 → ⊥) → z ≡ pos (w / 2) → toZ w32 (ofZ w32 z) ≡ negℤ (integerOf w)
-  odd-not a e = rw (e, back (fits-pos (w / 2) (omega arith)), ne-eqb _ _ a, negℤ-negℤ)
 
 pub fits-int : (w : ℕ) → w < 4294967296 → SFits w32 (integerOf w)
 fits-int w h = go (eqb (w % 2) 0)

@@ -128,7 +128,7 @@ abbrev pub Some : {A : Type 0} → (A → Type 0) → List A → Type 0
 Some P [] = ⊥
 Some P (a ∷ l) = P a ⊎ Some P l
 
--- the theory atom a says d
+-- the theory atom a says d. Numbers are looked up in the whole text: in one that 6 does not refuse, each is defined once and before its use
 abbrev pub Says : List Line → ℕ → Diff → Type 0
 Says ls a d = Some (λ (l : Line). SaysIn ls a d (partOf (l .says))) ls
 

@@ -131,10 +131,8 @@ fn signed(w: u32) -> i32
 fn negated(w: u32) -> i32
     ensures { λ r. ⌜ r ≡ negℤ (integerOf w) ⌝ }
 {
-    if w % 2 != 0 {
-        return whole(w / 2);
-    }
-    minus(w / 2)
+    let z = signed(w);
+    0 - z
 }
 
 // The numeric term of an entry, negated.

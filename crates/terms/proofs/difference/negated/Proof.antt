@@ -1,20 +1,17 @@
--- `negated`: an odd word is its half, an even one its half negated.
-use Rattle.terms.proofs.Signs.{even-not, odd-not}
+-- `negated`: 0 less the integer that was read.
+use Rattle.terms.proofs.Signs.{fits-int, fits-opposite, less-fits, less-is}
 use borrow.Author.Needs.{needs}
 use Rattle.terms.proofs.difference.negated.Statement.{statement}
 use Rattle.terms.proofs.difference.negated.Tie as tie
 
-whole-requires : tie.Need-whole-requires
-whole-requires c κs = search needs
+signed-requires : tie.Need-signed-requires
+signed-requires c κs = search needs
+
+sub-result : tie.Need-sub-result
+sub-result c = less-fits _ (c .signed .ensures) (fits-int _ (c .before .fits .w .fits)) (fits-opposite _ (c .before .fits .w .fits))
 
 returns : tie.Need-returns
-returns c = odd-not _ _ (c .before .before .fits .w .fits) (c .before .if1 .taken) (c .whole .ensures)
-
-minus-requires : tie.Need-minus-requires
-minus-requires c κs = search needs
-
-returns-2 : tie.Need-returns-2
-returns-2 c = even-not _ _ (c .before .before .fits .w .fits) (c .before .if1 .left) (c .minus .ensures)
+returns c = less-is _ (c .signed .ensures) (fits-int _ (c .before .fits .w .fits)) (fits-opposite _ (c .before .fits .w .fits))
 
 pub negated-spec : {M : Type 1} → statement M
-negated-spec = tie.close (tie.spec whole-requires returns minus-requires returns-2)
+negated-spec = tie.close (tie.spec signed-requires sub-result returns)
