@@ -11,10 +11,10 @@ use lib.ListN.{length}
 use Rattle.faults.specs.Answer.{got, pick}
 use Rattle.fields.specs.declared.Item.{Item}
 use Rattle.fields.specs.Reading.{Reading, found, fault}
-use Rattle.fields.specs.Fields.{byteAt, byte, natural, nextNatural, negative, integer, nextInteger, literal, atom, nextAtom, nextTerm, nextElement, item, items, counted, plain, stringLength, string, rest}
+use Rattle.fields.specs.Fields.{byteAt, byte, lineEnd, natural, nextNatural, negative, integer, nextInteger, literal, atom, nextAtom, nextTerm, nextElement, item, items, counted, plain, naturalThen, string, rest}
 use Rattle.fields.proofs.Naturals.{natural-within}
 use Rattle.fields.proofs.Ahead.{item-ahead}
-use Rattle.aspif.specs.Statements.{positive, negated, choice, Statement, Line}
+use Rattle.aspif.specs.Statements.{positive, negated, choice, Line}
 use Rattle.aspif.specs.Grammar.{literalOf, integerOf, headOf, plainHead, lineOf, heads, bodyKind, body, literals, ruleLine, outputLine, numericLine, stringLine, compoundLine, elementLine, Front, front, theoryLine, guardedLine, commentLine, theoryType, theoryOf, theoryPart, statementOf, lastLine, lines, firstLine, plan, answer, statements}
 use Rattle.aspif.specs.Words.{AllBelow, atomOf, SmallLiterals, SmallHead, Between, Small, AllSmall}
 use Rattle.aspif.proofs.Always.{Always, always-fault, always-found, always-then, always-after, always-pick, always-either, always-unless, always-placed, always-so}
@@ -29,6 +29,10 @@ And P at v n = P v × (at < n)
 byte-next : (b : ℕ) (s : List ℕ) (at : ℕ) → Always (λ u n. at < n) (byte b s at)
 unfolding byte
 byte-next b s at = always-pick (eqb (byteAt s at) b) (always-found tt (at + 1) (omega arith)) (always-fault 3 at)
+
+lineEnd-next : (s : List ℕ) (at : ℕ) → Always (λ u n. at < n) (lineEnd s at)
+unfolding lineEnd
+lineEnd-next = byte-next 10
 
 natural-small : (k most : ℕ) (s : List ℕ) (at : ℕ) → Always (And (λ v. v < suc most) at) (natural k most s at)
 natural-small k most s at = record { holds = λ v n e. let h = natural-within k most s at v n e in (omega arith, h .1) }
@@ -160,9 +164,9 @@ module _ (s : List ℕ) where
   chars-past n at =
       always-so (items-each (λ v. Unit {0}) of.Char s (λ m. record { holds = λ v l e. (tt, item-ahead of.Char s m .ends v l e .0) }) n at) (λ bs l h. h .1)
 
-  stringLength-past : (at : ℕ) → Always (λ v n. at < n) (stringLength s at)
-  unfolding stringLength
-  stringLength-past at =
+  length-past : (at : ℕ) → Always (λ v n. at < n) (naturalThen 5 4096 32 s at)
+  unfolding naturalThen
+  length-past at =
       always-then _ _ (nextNatural-small 5 4096 s at) (λ v m h.
       always-then _ _ (byte-next 32 s m) (λ u l j.
       always-found v l (omega arith)))
@@ -170,7 +174,7 @@ module _ (s : List ℕ) where
   string-past : (at : ℕ) → Always (λ bs n. at < n) (string s at)
   unfolding string
   string-past at =
-      always-then _ _ (stringLength-past at) (λ v m h. always-so (chars-past v m) (λ bs l i. omega arith))
+      always-then _ _ (length-past at) (λ v m h. always-so (chars-past v m) (λ bs l i. omega arith))
 
   rest-past : (at : ℕ) → Always (λ bs n. at ≤ n) (rest s at)
   unfolding rest
@@ -207,101 +211,105 @@ front-small s at =
     always-then _ _ (elements-small s m) (λ vs l j.
     always-found _ l ((h .0, i .0, j .0), omega arith))))
 
+-- a statement keeps to the bounds, and ends past where it begins
+module _ (s : List ℕ) where
+  rule-small : (at : ℕ) → Always (And Small at) (ruleLine s at)
+  unfolding ruleLine
+  rule-small at =
+      always-then _ _ (nextNatural-small 3 1 s at) (λ kind n g.
+      always-then _ _ (heads-small kind s n) (λ hs m h.
+      always-then _ _ (body-small s m) (λ ls l i.
+      always-found _ l ((h .0, i .0), omega arith))))
+
+  output-small : (at : ℕ) → Always (And Small at) (outputLine s at)
+  unfolding outputLine
+  output-small at =
+      always-then _ _ (string-past s at) (λ bs n h.
+      always-then _ _ (literals-small s n) (λ ls m i.
+      always-found _ m (i .0, omega arith)))
+
+  numeric-small : (at : ℕ) → Always (And Small at) (numericLine s at)
+  unfolding numericLine
+  numeric-small at =
+      always-then _ _ (nextTerm-small s at) (λ u n h.
+      always-then _ _ (nextInteger-fits 1000000 1000000 s n) (λ w m i.
+      always-found _ m ((h .0, fits-between 1000000 1000000 w (i .0)), omega arith)))
+
+  string-small : (at : ℕ) → Always (And Small at) (stringLine s at)
+  unfolding stringLine
+  string-small at =
+      always-then _ _ (nextTerm-small s at) (λ u n h.
+      always-then _ _ (string-past s n) (λ bs m i.
+      always-found _ m (h .0, omega arith)))
+
+  compound-small : (at : ℕ) → Always (And Small at) (compoundLine s at)
+  unfolding compoundLine
+  compound-small at =
+      always-then _ _ (nextTerm-small s at) (λ u n h.
+      always-then _ _ (nextInteger-fits 3 1023 s n) (λ t m i.
+      always-then _ _ (terms-small s m) (λ us l j.
+      always-found _ l ((h .0, fits-between 3 1023 t (i .0), j .0), omega arith))))
+
+  element-small : (at : ℕ) → Always (And Small at) (elementLine s at)
+  unfolding elementLine
+  element-small at =
+      always-then _ _ (nextElement-small s at) (λ v n h.
+      always-then _ _ (terms-small s n) (λ us m i.
+      always-then _ _ (literals-small s m) (λ ls l j.
+      always-found _ l ((h .0, i .0, j .0), omega arith))))
+
+  theory-small : (at : ℕ) → Always (And Small at) (theoryLine s at)
+  unfolding theoryLine
+  theory-small at = always-then _ _ (front-small s at) (λ f n h. always-found _ n (h .0, omega arith))
+
+  guarded-small : (at : ℕ) → Always (And Small at) (guardedLine s at)
+  unfolding guardedLine
+  guarded-small at =
+      always-then _ _ (front-small s at) (λ f n h.
+      always-then _ _ (nextTerm-small s n) (λ g m i.
+      always-then _ _ (nextTerm-small s m) (λ u l j.
+      always-found _ l ((h .0 .0, h .0 .1, h .0 .2, i .0, j .0), omega arith))))
+
+  comment-small : (at : ℕ) → Always (And Small at) (commentLine s at)
+  unfolding commentLine
+  comment-small at =
+      always-then _ _ (byte-next 32 s at) (λ u n h.
+      always-then _ _ (rest-past s n) (λ bs m i.
+      always-found _ m (tt, omega arith)))
+
+  theoryOf-small : (k at : ℕ) → Always (And Small at) (theoryOf k s at)
+  unfolding theoryOf
+  theoryOf-small k at =
+      always-either (eqb k 0) _ _ s at (numeric-small at)
+      (always-either (eqb k 1) _ _ s at (string-small at)
+      (always-either (eqb k 2) _ _ s at (compound-small at)
+      (always-either (eqb k 4) _ _ s at (element-small at)
+      (always-either (eqb k 5) _ _ s at (theory-small at) (guarded-small at)))))
+
+  theoryPart-small : (at : ℕ) → Always (And Small at) (theoryPart s at)
+  unfolding theoryPart
+  theoryPart-small at =
+      always-then _ _ (theoryType-past s at) (λ k n h. always-so (theoryOf-small k n) (λ x m i. (i .0, omega arith)))
+
+  statement-small : (k place at : ℕ) → Always (And Small at) (statementOf k place s at)
+  unfolding statementOf
+  statement-small k place at =
+      always-either (eqb k 1) _ _ s at (rule-small at)
+      (always-either (eqb k 4) _ _ s at (output-small at)
+      (always-either (eqb k 9) _ _ s at (theoryPart-small at)
+      (always-either (eqb k 10) _ _ s at (comment-small at) (always-fault 4 place))))
+
 -- a line that stands below a place and keeps to the bounds
 abbrev pub Kept : (bound : ℕ) → Line → Type 0
 Kept bound x = (x .place < bound) × Small (x .says)
 
-module _ (bound place : ℕ) (near : place < bound) (s : List ℕ) where
-  line-kept : (x : Statement) (from at : ℕ) → from ≤ at → Small x → Always (And (Kept bound) from) (lineOf place x s at)
-  unfolding lineOf
-  line-kept x from at l h = always-then _ _ (byte-next 10 s at) (λ u n i. always-found _ n ((near, h), omega arith))
-
-  rule-kept : (at : ℕ) → Always (And (Kept bound) at) (ruleLine place s at)
-  unfolding ruleLine
-  rule-kept at =
-      always-then _ _ (nextNatural-small 3 1 s at) (λ kind n g.
-      always-then _ _ (heads-small kind s n) (λ hs m h.
-      always-then _ _ (body-small s m) (λ ls l i.
-      line-kept _ at l (omega arith) (h .0, i .0))))
-
-  output-kept : (at : ℕ) → Always (And (Kept bound) at) (outputLine place s at)
-  unfolding outputLine
-  output-kept at =
-      always-then _ _ (string-past s at) (λ bs n h.
-      always-then _ _ (literals-small s n) (λ ls m i.
-      line-kept _ at m (omega arith) (i .0)))
-
-  numeric-kept : (at : ℕ) → Always (And (Kept bound) at) (numericLine place s at)
-  unfolding numericLine
-  numeric-kept at =
-      always-then _ _ (nextTerm-small s at) (λ u n h.
-      always-then _ _ (nextInteger-fits 1000000 1000000 s n) (λ w m i.
-      line-kept _ at m (omega arith) (h .0, fits-between 1000000 1000000 w (i .0))))
-
-  string-kept : (at : ℕ) → Always (And (Kept bound) at) (stringLine place s at)
-  unfolding stringLine
-  string-kept at =
-      always-then _ _ (nextTerm-small s at) (λ u n h.
-      always-then _ _ (string-past s n) (λ bs m i.
-      line-kept _ at m (omega arith) (h .0)))
-
-  compound-kept : (at : ℕ) → Always (And (Kept bound) at) (compoundLine place s at)
-  unfolding compoundLine
-  compound-kept at =
-      always-then _ _ (nextTerm-small s at) (λ u n h.
-      always-then _ _ (nextInteger-fits 3 1023 s n) (λ t m i.
-      always-then _ _ (terms-small s m) (λ us l j.
-      line-kept _ at l (omega arith) (h .0, fits-between 3 1023 t (i .0), j .0))))
-
-  element-kept : (at : ℕ) → Always (And (Kept bound) at) (elementLine place s at)
-  unfolding elementLine
-  element-kept at =
-      always-then _ _ (nextElement-small s at) (λ v n h.
-      always-then _ _ (terms-small s n) (λ us m i.
-      always-then _ _ (literals-small s m) (λ ls l j.
-      line-kept _ at l (omega arith) (h .0, i .0, j .0))))
-
-  theory-kept : (at : ℕ) → Always (And (Kept bound) at) (theoryLine place s at)
-  unfolding theoryLine
-  theory-kept at = always-then _ _ (front-small s at) (λ f n h. line-kept _ at n (omega arith) (h .0))
-
-  guarded-kept : (at : ℕ) → Always (And (Kept bound) at) (guardedLine place s at)
-  unfolding guardedLine
-  guarded-kept at =
-      always-then _ _ (front-small s at) (λ f n h.
-      always-then _ _ (nextTerm-small s n) (λ g m i.
-      always-then _ _ (nextTerm-small s m) (λ u l j.
-      line-kept _ at l (omega arith) (h .0 .0, h .0 .1, h .0 .2, i .0, j .0))))
-
-  comment-kept : (at : ℕ) → Always (And (Kept bound) at) (commentLine place s at)
-  unfolding commentLine
-  comment-kept at =
-      always-then _ _ (byte-next 32 s at) (λ u n h.
-      always-then _ _ (rest-past s n) (λ bs m i.
-      line-kept _ at m (omega arith) tt))
-
-  theoryOf-kept : (k at : ℕ) → Always (And (Kept bound) at) (theoryOf k place s at)
-  unfolding theoryOf
-  theoryOf-kept k at =
-      always-either (eqb k 0) _ _ s at (numeric-kept at)
-      (always-either (eqb k 1) _ _ s at (string-kept at)
-      (always-either (eqb k 2) _ _ s at (compound-kept at)
-      (always-either (eqb k 4) _ _ s at (element-kept at)
-      (always-either (eqb k 5) _ _ s at (theory-kept at) (guarded-kept at)))))
-
-  theoryPart-kept : (at : ℕ) → Always (And (Kept bound) at) (theoryPart place s at)
-  unfolding theoryPart
-  theoryPart-kept at =
-      always-then _ _ (theoryType-past s at) (λ k n h. always-so (theoryOf-kept k n) (λ x m i. (i .0, omega arith)))
-
-  -- a statement keeps to the bounds, and ends past where it begins
-  pub statement-kept : (k at : ℕ) → Always (And (Kept bound) at) (statementOf k place s at)
-  unfolding statementOf
-  statement-kept k at =
-      always-either (eqb k 1) _ _ s at (rule-kept at)
-      (always-either (eqb k 4) _ _ s at (output-kept at)
-      (always-either (eqb k 9) _ _ s at (theoryPart-kept at)
-      (always-either (eqb k 10) _ _ s at (comment-kept at) (always-fault 4 place))))
+-- and so does a line
+pub line-kept : (bound place : ℕ) → place < bound → (s : List ℕ) (k at : ℕ) → Always (And (Kept bound) at) (lineOf k place s at)
+unfolding lineOf
+line-kept bound place near s k at =
+    always-then _ _ (statement-small s k place at) (λ x n h.
+    always-then _ _ (lineEnd-next s n) (λ u m i.
+    always-found _ m ((near, h .0), omega arith)))
 
 -- ---- the text
 
@@ -317,7 +325,7 @@ module _ (s : List ℕ) (short : length s ≤ 60000) where
       always-then _ _ (type-within s at) (λ k m h.
       always-either (eqb k 0) _ _ s m
       (always-after (lastLine s m) _ (λ u l. always-found [] l tt))
-      (always-then _ _ (statement-kept 60000 at (omega arith) s k m) (λ x l i.
+      (always-then _ _ (line-kept 60000 at (omega arith) s k m) (λ x l i.
       always-then _ _ (lines-always n l) (λ xs o j.
       always-found (x ∷ xs) o (i .0, j)))))
 

@@ -9,10 +9,10 @@ use lib.Dec.{eqb, leb, ltb, lit<}
 use lib.ListN.{length, getD, set, replicate, length-set, length-replicate}
 use lib.Seq.{getD-set-other}
 use Rattle.faults.specs.Answer.{got, refused, pick}
-use Rattle.fields.specs.Reading.{Reading, found, fault, bind}
-use Rattle.fields.specs.Fields.{byteAt, byte, field, allDigits, isNatural, value, natural}
+use Rattle.fields.specs.Reading.{Reading, found, fault, isFound, bind}
+use Rattle.fields.specs.Fields.{byteAt, byte, lineEnd, textEnd, field, allDigits, isNatural, value, natural}
 use Rattle.fields.proofs.Decimal.{value-grows}
-use Rattle.fields.proofs.Naturals.{there, natural-within}
+use Rattle.fields.proofs.Naturals.{byte-read, byte-missed, there, natural-within}
 use Rattle.aspif.specs.Grammar.{answer, lastLine}
 use Rattle.aspif.specs.Candidate.{sevenfold, atomAbove, ending, ascending, atoms, candidate, AscendingFrom, atomsOf, Blank}
 use Rattle.faults.proofs.Marks.{marks-none, marks-more}
@@ -96,7 +96,7 @@ data Ended (s : List ℕ) (at : ℕ) : Reading Unit → Type 0 where
   over : {n : ℕ} → Ended s at (found tt n)
 
 ended : (s : List ℕ) (at : ℕ) → at ≤ length s → Ended s at (ending s at)
-unfolding ending lastLine byte
+unfolding ending lastLine lineEnd textEnd byte
 ended s at l = go (eqb (byteAt s at) 10) (ltb (at + 1) (length s)) refl
   where
     go : (t u : Bool) → ltb (at + 1) (length s) ≡ u
@@ -195,37 +195,39 @@ module _ {s x : List ℕ} {low at : ℕ} {whole : Reading (List ℕ)} (h : Marki
       marks : atomsOf (set x v 1) ≡ atomsOf x ++ (v ∷ [])
       marks = marks-more x v (omega (arith, h .places, bounds)) (λ a g. h .clear a (omega (arith, bounds)))
 
-      pub marking-open : (byteAt s m ≡ 32 → ⊥) → {k p : ℕ} → fault k p ≡ ending s m → refused k p ≡ answer whole
-      marking-open b d = rw (next, ← e, ne-eqb _ _ b, ← d)
+      pub marking-open : {i q k p : ℕ} → fault i q ≡ byte 32 s m → fault k p ≡ ending s m → refused k p ≡ answer whole
+      marking-open b d = rw (next, ← e, ne-eqb _ _ (byte-missed 32 s m b), ← d)
 
-      pub marking-last : (byteAt s m ≡ 32 → ⊥) → {i : ℕ} → found tt i ≡ ending s m → got (atomsOf (set x v 1)) ≡ answer whole
-      marking-last b d = rw (next, ← e, ne-eqb _ _ b, ← d, marks)
+      pub marking-last : {i q l : ℕ} → fault i q ≡ byte 32 s m → found tt l ≡ ending s m → got (atomsOf (set x v 1)) ≡ answer whole
+      marking-last b d = rw (next, ← e, ne-eqb _ _ (byte-missed 32 s m b), ← d, marks)
 
-      pub marking-more : byteAt s m ≡ 32 → Marking s (set x v 1) v (m + 1) whole
+      pub marking-more : {l : ℕ} → found tt l ≡ byte 32 s m → Marking s (set x v 1) v l whole
       marking-more b =
-          record {
+          let r = byte-read 32 s m b in
+          rw (r .1)
+          (record {
             places = simp length-set (h .places);
             clear = λ a g. getD-set-other x v a 1 0 (λ d. omega arith) ∙ h .clear a (omega (arith, bounds));
             rest =
                 next
-                ∙ rw (← e, eq-eqb _ _ b, marks, ascending-enough (4096 - low - 1) (4096 - v) v s (m + 1) (omega (arith, bounds)) (omega (arith, bounds)))
+                ∙ rw (← e, eq-eqb _ _ (r .0), marks, ascending-enough (4096 - low - 1) (4096 - v) v s (m + 1) (omega (arith, bounds)) (omega (arith, bounds)))
                 (behind-both (atomsOf x) (v ∷ []) (ascending (4096 - v) v s (m + 1)));
-          }
+          })
 
 -- ---- what a candidate is
 
 module _ (s : List ℕ) where
-  pub empty-refused : byteAt s 0 ≡ 10 → {k p : ℕ} → fault k p ≡ ending s 0 → refused k p ≡ candidate s
+  pub empty-refused : {i k p : ℕ} → found tt i ≡ lineEnd s 0 → fault k p ≡ ending s 0 → refused k p ≡ candidate s
   unfolding candidate atoms
-  empty-refused b e = rw (eq-eqb _ _ b, ← e)
+  empty-refused b e = rw (← b, ← e)
 
-  pub empty-good : byteAt s 0 ≡ 10 → {n : ℕ} → found tt n ≡ ending s 0 → got [] ≡ candidate s
+  pub empty-good : {i n : ℕ} → found tt i ≡ lineEnd s 0 → found tt n ≡ ending s 0 → got [] ≡ candidate s
   unfolding candidate atoms
-  empty-good b e = rw (eq-eqb _ _ b, ← e)
+  empty-good b e = rw (← b, ← e)
 
-  pub candidate-other : (byteAt s 0 ≡ 10 → ⊥) → answer (ascending 4096 0 s 0) ≡ candidate s
+  pub candidate-other : {k p : ℕ} → fault k p ≡ lineEnd s 0 → answer (ascending 4096 0 s 0) ≡ candidate s
   unfolding candidate atoms
-  candidate-other b = rw (ne-eqb _ _ b)
+  candidate-other b = rw (← b)
 
 -- a list of atoms that was read from a place of the text: strictly ascending, or a fault by 7 within the text, and not far ahead
 data Listed (low far : ℕ) (s : List ℕ) : Reading (List ℕ) → Type 0 where
@@ -261,7 +263,7 @@ listed (suc n) low s at h = go (λ v m. listed n v s (m + 1)) (atomAbove low s a
 
 atoms-listed : (s : List ℕ) → Listed 0 20480 s (atoms s 0)
 unfolding atoms
-atoms-listed s = go (eqb (byteAt s 0) 10)
+atoms-listed s = go (isFound (lineEnd s 0))
   where
     empty : (a : Reading (Unit {0})) → Ended s 0 a → Listed 0 20480 s (bind a (λ u n. found [] n))
     empty _ (more i j) = bad i (omega arith)

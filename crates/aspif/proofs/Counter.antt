@@ -11,8 +11,8 @@ use Rattle.fields.specs.Reading.{Reading, found, fault, bind, _>>=_, _>>_, pure
 use Rattle.fields.specs.Fields.{natural, field, isSeparator}
 use Rattle.fields.proofs.Runs.{upTo-length}
 use Rattle.fields.proofs.Naturals.{natural-none, natural-within}
-use Rattle.aspif.specs.Grammar.{statementOf, lastLine, lines, firstLine, plan}
-use Rattle.aspif.proofs.Bounds.{statement-kept}
+use Rattle.aspif.specs.Grammar.{lineOf, lastLine, lines, firstLine, plan}
+use Rattle.aspif.proofs.Bounds.{line-kept}
 
 -- past the end of the text there is no line, whatever the count
 lines-past : (n : ℕ) (s : List ℕ) (at : ℕ) → length s ≤ at → fault 3 at ≡ lines n s at
@@ -37,12 +37,12 @@ lines-enough (suc n) (suc m) s at h k =
     go (λ l d. lines-enough n m s l (omega arith) (omega arith)) i j (natural-within 3 10 s at i j e .1) (eqb i 0))
   where
     go : ((l : ℕ) → at < l → lines n s l ≡ lines m s l) → (i j : ℕ) → at < j → (t : Bool)
-        → (pick t (lastLine >> pure []) (statementOf i at >>= (λ x. lines n >>= (λ xs. pure (x ∷ xs))))) s j
-        ≡ (pick t (lastLine >> pure []) (statementOf i at >>= (λ x. lines m >>= (λ xs. pure (x ∷ xs))))) s j
+        → (pick t (lastLine >> pure []) (lineOf i at >>= (λ x. lines n >>= (λ xs. pure (x ∷ xs))))) s j
+        ≡ (pick t (lastLine >> pure []) (lineOf i at >>= (λ x. lines m >>= (λ xs. pure (x ∷ xs))))) s j
     go r i j d true = refl
     go r i j d false =
-        bind-same (statementOf i at s j) _ _ (λ x l e.
-        let c = statement-kept (suc at) at (omega arith) s i j .holds x l e in
+        bind-same (lineOf i at s j) _ _ (λ x l e.
+        let c = line-kept (suc at) at (omega arith) s i j .holds x l e in
         ap (λ a. bind a (λ xs o. found (x ∷ xs) o)) (r l (omega arith)))
 
 -- a count of the text's length or more gives the plan

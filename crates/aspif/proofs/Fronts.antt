@@ -10,7 +10,7 @@ use lib.ListN.{length, take, drop, length-take}
 use lib.Seq.{take-all, take-nil, getD-take}
 use Rattle.faults.specs.Answer.{pick}
 use Rattle.fields.specs.Reading.{Reading, found, fault, bind}
-use Rattle.fields.specs.Fields.{upTo, isSeparator, byteAt, byte, field, isNatural, value, natural}
+use Rattle.fields.specs.Fields.{upTo, isSeparator, byteAt, byte, lineEnd, textEnd, field, isNatural, value, natural}
 use Rattle.aspif.specs.Grammar.{lastLine}
 use Rattle.aspif.specs.Candidate.{sevenfold, atomAbove, ending, ascending, atoms, candidate}
 use Rattle.aspif.proofs.Candidates.{field-short, Above, none, some, above, onward}
@@ -85,7 +85,7 @@ module _ (n : ℕ) (s : List ℕ) (at : ℕ) where
 
 -- the end
 ending-front : (n : ℕ) (s : List ℕ) (at : ℕ) → at + 1 < n → ending (take n s) at ≡ ending s at
-unfolding ending lastLine byte
+unfolding ending lastLine lineEnd textEnd byte
 ending-front n s at h = rw (byte-front n s at (omega arith)) (go (eqb (byteAt s at) 10))
   where
     go : (t : Bool)
@@ -108,5 +108,5 @@ ascending-front n s (suc k) low at h =
 
 -- a candidate and its front of 20,481 bytes or more are read alike
 pub candidate-front : (n : ℕ) (s : List ℕ) → 20480 < n → candidate (take n s) ≡ candidate s
-unfolding candidate atoms
+unfolding candidate atoms lineEnd byte
 candidate-front n s h = rw (byte-front n s 0 (omega arith), ending-front n s 0 (omega arith), ascending-front n s 4096 0 0 (omega arith))

@@ -10,11 +10,11 @@ use lib.ListN.{length}
 use Rattle.faults.specs.Answer.{refused, pick}
 use Rattle.fields.specs.declared.Item.{Item}
 use Rattle.fields.specs.Reading.{Reading, found, fault, Reader, bind, placed}
-use Rattle.fields.specs.Fields.{byteAt, byte, bytes, allPositive, natural, nextNatural, negative, integer, nextInteger, literal, atom, nextAtom, nextTerm, nextElement, char, item, items, counted, plain, stringLength, string, rest}
+use Rattle.fields.specs.Fields.{byteAt, byte, bytes, lineEnd, textEnd, allPositive, natural, nextNatural, negative, integer, nextInteger, literal, atom, nextAtom, nextTerm, nextElement, char, item, items, counted, plain, naturalThen, string, rest}
 use Rattle.fields.proofs.Naturals.{there, natural-within}
 use Rattle.fields.proofs.Words.{positive-more}
 use Rattle.fields.proofs.Ahead.{Ahead, natural-ahead, nextNatural-far, item-ahead}
-use Rattle.aspif.specs.Statements.{Statement, Line}
+use Rattle.aspif.specs.Statements.{Line}
 use Rattle.aspif.specs.Grammar.{lineOf, heads, bodyKind, body, literals, ruleLine, outputLine, numericLine, stringLine, compoundLine, elementLine, front, theoryLine, guardedLine, commentLine, theoryType, theoryOf, theoryPart, statementOf, lastLine, lines, noTag, firstLine, plan, answer, statements}
 use Rattle.aspif.proofs.Candidates.{natural-fault}
 use Rattle.fields.specs.declared.Item.the-variants as of
@@ -75,6 +75,11 @@ module _ (s : List ℕ) where
   -- a space
   space-inside : (at : ℕ) → at ≤ length s → Inside s (byte 32 s at)
   space-inside = byte-inside 32 (lit< tt)
+
+  -- the end of a line
+  lineEnd-inside : (at : ℕ) → at ≤ length s → Inside s (lineEnd s at)
+  unfolding lineEnd
+  lineEnd-inside = byte-inside 10 (lit< tt)
 
   -- a natural, which is refused where it begins
   natural-inside : (k most at : ℕ) → at ≤ length s → Inside s (natural k most s at)
@@ -155,7 +160,7 @@ module _ (s : List ℕ) where
 
   -- a string behind its length
   string-inside : (at : ℕ) → at ≤ length s → Inside s (string s at)
-  unfolding string stringLength
+  unfolding string naturalThen
   string-inside at l =
       inside-then _ _ (inside-then _ _ (nextNatural-inside 5 4096 at l) (λ v n i. inside-then _ _ (space-inside n i) (λ u m j. ends j)))
       (λ v n i. items-inside of.Char v n i)
@@ -200,109 +205,109 @@ module _ (s : List ℕ) where
       inside-then _ _ (nextTerm-inside n i) (λ p m j.
       inside-then _ _ (counted-inside of.Element 5 4096 m j) (λ vs o h. ends h)))
 
-  -- the end of a line
-  line-inside : (place : ℕ) (x : Statement) (at : ℕ) → at ≤ length s → Inside s (lineOf place x s at)
-  unfolding lineOf
-  line-inside place x at l = inside-then _ _ (byte-inside 10 (lit< tt) at l) (λ u n i. ends i)
+  -- a rule
+  rule-inside : (at : ℕ) → at ≤ length s → Inside s (ruleLine s at)
+  unfolding ruleLine heads
+  rule-inside at l =
+      inside-then _ _ (nextNatural-inside 3 1 at l) (λ kind n i.
+      inside-then _ _ (counted-inside of.Atom (pick (eqb kind 0) 4 5) (pick (eqb kind 0) 1 4096) n i) (λ hs m j.
+      inside-then _ _ (body-inside m j) (λ ls o h. ends h)))
+
+  -- an output
+  output-inside : (at : ℕ) → at ≤ length s → Inside s (outputLine s at)
+  unfolding outputLine
+  output-inside at l =
+      inside-then _ _ (string-inside at l) (λ bs n i.
+      inside-then _ _ (literals-inside n i) (λ ls m j. ends j))
+
+  -- a numeric term
+  numeric-inside : (at : ℕ) → at ≤ length s → Inside s (numericLine s at)
+  unfolding numericLine
+  numeric-inside at l =
+      inside-then _ _ (nextTerm-inside at l) (λ u n i.
+      inside-then _ _ (nextInteger-inside 1000000 1000000 n i) (λ w m j. ends j))
+
+  -- a string term
+  stringLine-inside : (at : ℕ) → at ≤ length s → Inside s (stringLine s at)
+  unfolding stringLine
+  stringLine-inside at l =
+      inside-then _ _ (nextTerm-inside at l) (λ u n i.
+      inside-then _ _ (string-inside n i) (λ bs m j. ends j))
+
+  -- a compound term
+  compound-inside : (at : ℕ) → at ≤ length s → Inside s (compoundLine s at)
+  unfolding compoundLine
+  compound-inside at l =
+      inside-then _ _ (nextTerm-inside at l) (λ u n i.
+      inside-then _ _ (nextInteger-inside 3 1023 n i) (λ t m j.
+      inside-then _ _ (counted-inside of.Term 5 4096 m j) (λ us o h. ends h)))
+
+  -- an element
+  element-inside : (at : ℕ) → at ≤ length s → Inside s (elementLine s at)
+  unfolding elementLine
+  element-inside at l =
+      inside-then _ _ (nextElement-inside at l) (λ v n i.
+      inside-then _ _ (counted-inside of.Term 5 4096 n i) (λ us m j.
+      inside-then _ _ (literals-inside m j) (λ ls o h. ends h)))
+
+  -- a theory atom
+  theory-inside : (at : ℕ) → at ≤ length s → Inside s (theoryLine s at)
+  unfolding theoryLine
+  theory-inside at l = inside-then _ _ (front-inside at l) (λ f n i. ends i)
+
+  -- a theory atom with operator and bound
+  guarded-inside : (at : ℕ) → at ≤ length s → Inside s (guardedLine s at)
+  unfolding guardedLine
+  guarded-inside at l =
+      inside-then _ _ (front-inside at l) (λ f n i.
+      inside-then _ _ (nextTerm-inside n i) (λ g m j.
+      inside-then _ _ (nextTerm-inside m j) (λ u o h. ends h)))
+
+  -- a comment
+  comment-inside : (at : ℕ) → at ≤ length s → Inside s (commentLine s at)
+  unfolding commentLine
+  comment-inside at l =
+      inside-then _ _ (space-inside at l) (λ u n i.
+      inside-then _ _ (rest-inside n i) (λ bs m j. ends j))
+
+  -- a theory statement of a type
+  theoryOf-inside : (k at : ℕ) → at ≤ length s → Inside s (theoryOf k s at)
+  unfolding theoryOf
+  theoryOf-inside k at l =
+      inside-either (eqb k 0) _ _ at (numeric-inside at l)
+      (inside-either (eqb k 1) _ _ at (stringLine-inside at l)
+      (inside-either (eqb k 2) _ _ at (compound-inside at l)
+      (inside-either (eqb k 4) _ _ at (element-inside at l)
+      (inside-either (eqb k 5) _ _ at (theory-inside at l) (guarded-inside at l)))))
+
+  -- a theory statement
+  theoryPart-inside : (at : ℕ) → at ≤ length s → Inside s (theoryPart s at)
+  unfolding theoryPart
+  theoryPart-inside at l = inside-then _ _ (theoryType-inside at l) (λ k n i. theoryOf-inside k n i)
+
+  -- a statement that is not carried is refused at its line's first byte
+  statement-inside : (k place at : ℕ) → place ≤ length s → at ≤ length s → Inside s (statementOf k place s at)
+  unfolding statementOf
+  statement-inside k place at near l =
+      inside-either (eqb k 1) _ _ at (rule-inside at l)
+      (inside-either (eqb k 4) _ _ at (output-inside at l)
+      (inside-either (eqb k 9) _ _ at (theoryPart-inside at l)
+      (inside-either (eqb k 10) _ _ at (comment-inside at l) (stops near))))
 
   -- a line, by the place of its first byte
-  module _ (place : ℕ) where
-    -- a rule
-    rule-inside : (at : ℕ) → at ≤ length s → Inside s (ruleLine place s at)
-    unfolding ruleLine heads
-    rule-inside at l =
-        inside-then _ _ (nextNatural-inside 3 1 at l) (λ kind n i.
-        inside-then _ _ (counted-inside of.Atom (pick (eqb kind 0) 4 5) (pick (eqb kind 0) 1 4096) n i) (λ hs m j.
-        inside-then _ _ (body-inside m j) (λ ls o h. line-inside place _ o h)))
-
-    -- an output
-    output-inside : (at : ℕ) → at ≤ length s → Inside s (outputLine place s at)
-    unfolding outputLine
-    output-inside at l =
-        inside-then _ _ (string-inside at l) (λ bs n i.
-        inside-then _ _ (literals-inside n i) (λ ls m j. line-inside place _ m j))
-
-    -- a numeric term
-    numeric-inside : (at : ℕ) → at ≤ length s → Inside s (numericLine place s at)
-    unfolding numericLine
-    numeric-inside at l =
-        inside-then _ _ (nextTerm-inside at l) (λ u n i.
-        inside-then _ _ (nextInteger-inside 1000000 1000000 n i) (λ w m j. line-inside place _ m j))
-
-    -- a string term
-    stringLine-inside : (at : ℕ) → at ≤ length s → Inside s (stringLine place s at)
-    unfolding stringLine
-    stringLine-inside at l =
-        inside-then _ _ (nextTerm-inside at l) (λ u n i.
-        inside-then _ _ (string-inside n i) (λ bs m j. line-inside place _ m j))
-
-    -- a compound term
-    compound-inside : (at : ℕ) → at ≤ length s → Inside s (compoundLine place s at)
-    unfolding compoundLine
-    compound-inside at l =
-        inside-then _ _ (nextTerm-inside at l) (λ u n i.
-        inside-then _ _ (nextInteger-inside 3 1023 n i) (λ t m j.
-        inside-then _ _ (counted-inside of.Term 5 4096 m j) (λ us o h. line-inside place _ o h)))
-
-    -- an element
-    element-inside : (at : ℕ) → at ≤ length s → Inside s (elementLine place s at)
-    unfolding elementLine
-    element-inside at l =
-        inside-then _ _ (nextElement-inside at l) (λ v n i.
-        inside-then _ _ (counted-inside of.Term 5 4096 n i) (λ us m j.
-        inside-then _ _ (literals-inside m j) (λ ls o h. line-inside place _ o h)))
-
-    -- a theory atom
-    theory-inside : (at : ℕ) → at ≤ length s → Inside s (theoryLine place s at)
-    unfolding theoryLine
-    theory-inside at l = inside-then _ _ (front-inside at l) (λ f n i. line-inside place _ n i)
-
-    -- a theory atom with operator and bound
-    guarded-inside : (at : ℕ) → at ≤ length s → Inside s (guardedLine place s at)
-    unfolding guardedLine
-    guarded-inside at l =
-        inside-then _ _ (front-inside at l) (λ f n i.
-        inside-then _ _ (nextTerm-inside n i) (λ g m j.
-        inside-then _ _ (nextTerm-inside m j) (λ u o h. line-inside place _ o h)))
-
-    -- a comment
-    comment-inside : (at : ℕ) → at ≤ length s → Inside s (commentLine place s at)
-    unfolding commentLine
-    comment-inside at l =
-        inside-then _ _ (space-inside at l) (λ u n i.
-        inside-then _ _ (rest-inside n i) (λ bs m j. line-inside place _ m j))
-
-    -- a theory statement of a type
-    theoryOf-inside : (k at : ℕ) → at ≤ length s → Inside s (theoryOf k place s at)
-    unfolding theoryOf
-    theoryOf-inside k at l =
-        inside-either (eqb k 0) _ _ at (numeric-inside at l)
-        (inside-either (eqb k 1) _ _ at (stringLine-inside at l)
-        (inside-either (eqb k 2) _ _ at (compound-inside at l)
-        (inside-either (eqb k 4) _ _ at (element-inside at l)
-        (inside-either (eqb k 5) _ _ at (theory-inside at l) (guarded-inside at l)))))
-
-    -- a theory statement
-    theoryPart-inside : (at : ℕ) → at ≤ length s → Inside s (theoryPart place s at)
-    unfolding theoryPart
-    theoryPart-inside at l = inside-then _ _ (theoryType-inside at l) (λ k n i. theoryOf-inside k n i)
-
-    -- a statement that is not carried is refused at its line's first byte
-    statement-inside : place ≤ length s → (k at : ℕ) → at ≤ length s → Inside s (statementOf k place s at)
-    unfolding statementOf
-    statement-inside near k at l =
-        inside-either (eqb k 1) _ _ at (rule-inside at l)
-        (inside-either (eqb k 4) _ _ at (output-inside at l)
-        (inside-either (eqb k 9) _ _ at (theoryPart-inside at l)
-        (inside-either (eqb k 10) _ _ at (comment-inside at l) (stops near))))
+  line-inside : (k place at : ℕ) → place ≤ length s → at ≤ length s → Inside s (lineOf k place s at)
+  unfolding lineOf
+  line-inside k place at near l =
+      inside-then _ _ (statement-inside k place at near l) (λ x n i.
+      inside-then _ _ (lineEnd-inside n i) (λ u m j. ends j))
 
   -- ---- the text
 
   -- the line `0`
   last-inside : (at : ℕ) → at ≤ length s → Inside s (lastLine s at)
-  unfolding lastLine
+  unfolding lastLine textEnd
   last-inside at l =
-      inside-then _ _ (byte-inside 10 (lit< tt) at l) (λ u n i. inside-pick (ltb n (length s)) (stops i) (ends i))
+      inside-then _ _ (lineEnd-inside at l) (λ u n i. inside-pick (ltb n (length s)) (stops i) (ends i))
 
   -- the lines behind the first
   lines-inside : (n at : ℕ) → at ≤ length s → Inside s (lines n s at)
@@ -312,7 +317,7 @@ module _ (s : List ℕ) where
       inside-then _ _ (natural-inside 3 10 at l) (λ k m i.
       inside-either (eqb k 0) _ _ m
       (inside-then _ _ (last-inside m i) (λ u o j. ends j))
-      (inside-then _ _ (statement-inside at l k m i) (λ x o j.
+      (inside-then _ _ (line-inside k at m l i) (λ x o j.
       inside-then _ _ (lines-inside n o j) (λ xs p h. ends h))))
 
   -- the first line
@@ -320,7 +325,7 @@ module _ (s : List ℕ) where
   unfolding firstLine noTag allPositive
   first-inside at l =
       inside-then _ _ (bytes-inside (97 ∷ 115 ∷ 112 ∷ 32 ∷ 49 ∷ 32 ∷ 48 ∷ 32 ∷ 48 ∷ []) refl at l) (λ u n i.
-      inside-pick (eqb (byteAt s n) 32) (stops i) (byte-inside 10 (lit< tt) n i))
+      inside-pick (eqb (byteAt s n) 32) (stops i) (lineEnd-inside n i))
 
   -- a whole plan
   plan-inside : (at : ℕ) → at ≤ length s → Inside s (plan s at)

@@ -7,6 +7,6 @@ pub mod Counter
 pub mod Candidates
 pub mod Fronts
 pub mod Inside
-pub mod Ending
+pub mod Selectors
 pub mod Turns
 pub mod Walking

@@ -9,10 +9,10 @@ use lib.ListN.{length, length-append}
 use lib.Seq.{sets}
 use Rattle.faults.specs.Answer.{got}
 use Rattle.fields.specs.Reading.{Reading, found, fault, bind}
-use Rattle.fields.specs.Fields.{natural}
+use Rattle.fields.specs.Fields.{lineEnd, natural}
 use Rattle.fields.proofs.Taping.{On, on-start, on-more}
-use Rattle.aspif.specs.Statements.{Line}
-use Rattle.aspif.specs.Grammar.{answer, statementOf, lastLine, lines}
+use Rattle.aspif.specs.Statements.{Statement, Line}
+use Rattle.aspif.specs.Grammar.{answer, statementOf, lineOf, lastLine, lines}
 use Rattle.aspif.specs.Words.{words, allWords, linesOf, Taped}
 use Rattle.aspif.specs.Values.{taped}
 use Rattle.aspif.proofs.Decoding.{lines-back, within-back}
@@ -42,17 +42,24 @@ module _ (s : List ℕ) (at : ℕ) where
 
   pub line-stop : (left k m i q : ℕ) → 0 < left → found k m ≡ natural 3 10 s at → (k ≡ 0 → ⊥)
       → statementOf k at s m ≡ fault i q → lines left s at ≡ fault i q
-  unfolding lines
+  unfolding lines lineOf
   line-stop zero k m i q h e z d = absurd (omega arith)
   line-stop (suc l) k m i q h e z d = rw (← e, ne-eqb _ _ z, d)
 
-  pub line-goes : (left k m n : ℕ) (x : Line) → 0 < left → found k m ≡ natural 3 10 s at → (k ≡ 0 → ⊥)
-      → statementOf k at s m ≡ found x n → lines left s at ≡ bind (lines (left - 1) s n) (λ xs l. found (x ∷ xs) l)
-  unfolding lines
-  line-goes zero k m n x h e z d = absurd (omega arith)
-  line-goes (suc l) k m n x h e z d =
+  pub end-stop : (left k m n i q : ℕ) (x : Statement) → 0 < left → found k m ≡ natural 3 10 s at → (k ≡ 0 → ⊥)
+      → statementOf k at s m ≡ found x n → fault i q ≡ lineEnd s n → lines left s at ≡ fault i q
+  unfolding lines lineOf
+  end-stop zero k m n i q x h e z d f = absurd (omega arith)
+  end-stop (suc l) k m n i q x h e z d f = rw (← e, ne-eqb _ _ z, d, ← f)
+
+  pub line-goes : (left k m n p : ℕ) (x : Statement) → 0 < left → found k m ≡ natural 3 10 s at → (k ≡ 0 → ⊥)
+      → statementOf k at s m ≡ found x n → found tt p ≡ lineEnd s n
+      → lines left s at ≡ bind (lines (left - 1) s p) (λ xs l. found (record { place = at; says = x } ∷ xs) l)
+  unfolding lines lineOf
+  line-goes zero k m n p x h e z d f = absurd (omega arith)
+  line-goes (suc l) k m n p x h e z d f =
       let w : suc l - 1 ≡ l = omega arith in
-      rw (w, ← e, ne-eqb _ _ z, d)
+      rw (w, ← e, ne-eqb _ _ z, d, ← f)
 
 -- ---- the loop
 

@@ -6,8 +6,8 @@ use lib.ListN.{length, getD}
 use lib.Dec.{eqb, leb}
 use Rattle.faults.specs.Answer.{Answer, pick}
 use Rattle.faults.specs.Marks.{marks}
-use Rattle.fields.specs.Reading.{Reading, found, fault, Reader, bind}
-use Rattle.fields.specs.Fields.{byteAt, natural}
+use Rattle.fields.specs.Reading.{Reading, found, fault, Reader, isFound, bind}
+use Rattle.fields.specs.Fields.{byteAt, lineEnd, natural}
 use Rattle.aspif.specs.Grammar.{answer, lastLine}
 
 -- the same answer, with any fault as 7
@@ -32,9 +32,9 @@ ascending (suc n) low s at =
     (bind (ascending n v s (m + 1)) (λ vs l. found (v ∷ vs) l))
     (bind (ending s m) (λ u l. found (v ∷ []) l)))
 
--- byte 10 alone is the empty candidate
+-- a line end alone is the empty candidate
 unfoldable pub atoms : Reader (List ℕ)
-atoms s at = pick (eqb (byteAt s at) 10) (bind (ending s at) (λ u n. found [] n)) (ascending 4096 0 s at)
+atoms s at = pick (isFound (lineEnd s at)) (bind (ending s at) (λ u n. found [] n)) (ascending 4096 0 s at)
 
 -- the atoms of a candidate, or 7
 unfoldable pub candidate : List ℕ → Answer (List ℕ)

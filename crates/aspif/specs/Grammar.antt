@@ -1,14 +1,14 @@
 -- The grammar of a plan, one definition a sentence of document 01, 'Reading the text'. It can be run.
--- A reader is given the place of the line's first byte where that is the place of a refusal or of what the line says. Assumes nothing.
+-- A reader is given the place of the line's first byte where that is the place of a refusal. Assumes nothing.
 use Prim.Native.Nat.{ℕ, zero, suc, _+_, _/_, _%_}
 use mathlib.Core.List.{List, [], _∷_, map}
 use lib.ListN.{length}
-use lib.Dec.{eqb, ltb}
+use lib.Dec.{eqb}
 use lib.IntN.{ℤ, pos, negℤ}
 use Rattle.faults.specs.Answer.{Answer, got, refused, pick}
 use Rattle.fields.specs.declared.Item.the-variants as of
 use Rattle.fields.specs.Reading.{Reading, found, fault, Reader, bind, _>>=_, _>>_, pure}
-use Rattle.fields.specs.Fields.{byteAt, byte, bytes, natural, nextNatural, nextInteger, nextAtom, nextTerm, nextElement, counted, string, rest}
+use Rattle.fields.specs.Fields.{byteAt, byte, bytes, lineEnd, textEnd, natural, nextNatural, nextInteger, nextAtom, nextTerm, nextElement, counted, string, rest}
 use Rattle.aspif.specs.Statements.{Literal, positive, negated, Head, empty, single, choice, Statement, rule, output, numeric, string as stringTerm, compound, element, theory, guarded, comment, Line}
 
 -- ---- a literal and an integer are read as one number: 2 v, and 2 v + 1 after a minus
@@ -20,12 +20,6 @@ abbrev pub integerOf : ℕ → ℤ
 integerOf w = pick (eqb (w % 2) 0) (pos (w / 2)) (negℤ (pos (w / 2)))
 
 -- ---- statements
-
--- every line is ended by byte 10
-unfoldable pub lineOf : (place : ℕ) → Statement → Reader Line
-lineOf place x = do
-  byte 10
-  pure (record { place = place; says = x })
 
 -- a plain head holds no atom or one
 abbrev pub plainHead : List ℕ → Head
@@ -53,49 +47,49 @@ body = do
   literals
 
 -- the rest of `1`, head, body
-unfoldable pub ruleLine : (place : ℕ) → Reader Line
-ruleLine place = do
+unfoldable pub ruleLine : Reader Statement
+ruleLine = do
   kind ← nextNatural 3 1
   hs ← heads kind
   ls ← body
-  lineOf place (rule (headOf kind hs) (map literalOf ls))
+  pure (rule (headOf kind hs) (map literalOf ls))
 
 -- the rest of `4`, length, string, count, literals
-unfoldable pub outputLine : (place : ℕ) → Reader Line
-outputLine place = do
+unfoldable pub outputLine : Reader Statement
+outputLine = do
   bs ← string
   ls ← literals
-  lineOf place (output bs (map literalOf ls))
+  pure (output bs (map literalOf ls))
 
 -- the rest of `9 0 u w`
-unfoldable pub numericLine : (place : ℕ) → Reader Line
-numericLine place = do
+unfoldable pub numericLine : Reader Statement
+numericLine = do
   u ← nextTerm
   w ← nextInteger 1000000 1000000
-  lineOf place (numeric u (integerOf w))
+  pure (numeric u (integerOf w))
 
 -- the rest of `9 1 u n s`
-unfoldable pub stringLine : (place : ℕ) → Reader Line
-stringLine place = do
+unfoldable pub stringLine : Reader Statement
+stringLine = do
   u ← nextTerm
   bs ← string
-  lineOf place (stringTerm u bs)
+  pure (stringTerm u bs)
 
 -- the rest of `9 2 u t n u1..un`: t is -1, -2, -3 or a term number
-unfoldable pub compoundLine : (place : ℕ) → Reader Line
-compoundLine place = do
+unfoldable pub compoundLine : Reader Statement
+compoundLine = do
   u ← nextTerm
   t ← nextInteger 3 1023
   us ← counted of.Term 5 4096
-  lineOf place (compound u (integerOf t) us)
+  pure (compound u (integerOf t) us)
 
 -- the rest of `9 4 v n u1..un m l1..lm`
-unfoldable pub elementLine : (place : ℕ) → Reader Line
-elementLine place = do
+unfoldable pub elementLine : Reader Statement
+elementLine = do
   v ← nextElement
   us ← counted of.Term 5 4096
   ls ← literals
-  lineOf place (element v us (map literalOf ls))
+  pure (element v us (map literalOf ls))
 
 -- `a p n v1..vn` of a theory atom: atom 0, a directive, is not carried
 pub record Front : Type 0 where
@@ -111,25 +105,25 @@ front = do
   pure (record { atom = a; name = p; elements = vs })
 
 -- the rest of `9 5 a p n v1..vn`
-unfoldable pub theoryLine : (place : ℕ) → Reader Line
-theoryLine place = do
+unfoldable pub theoryLine : Reader Statement
+theoryLine = do
   f ← front
-  lineOf place (theory (f .atom) (f .name) (f .elements))
+  pure (theory (f .atom) (f .name) (f .elements))
 
 -- the rest of `9 6 a p n v1..vn g u`
-unfoldable pub guardedLine : (place : ℕ) → Reader Line
-guardedLine place = do
+unfoldable pub guardedLine : Reader Statement
+guardedLine = do
   f ← front
   g ← nextTerm
   u ← nextTerm
-  lineOf place (guarded (f .atom) (f .name) (f .elements) g u)
+  pure (guarded (f .atom) (f .name) (f .elements) g u)
 
 -- the rest of `10`, a space, and anything up to the line end
-unfoldable pub commentLine : (place : ℕ) → Reader Line
-commentLine place = do
+unfoldable pub commentLine : Reader Statement
+commentLine = do
   byte 32
   bs ← rest
-  lineOf place (comment bs)
+  pure (comment bs)
 
 -- ---- selectors: a number that the standard doesn't list is refused by 3
 
@@ -138,33 +132,42 @@ unfoldable pub theoryType : Reader ℕ
 theoryType s at = bind (nextNatural 3 6 s at) (λ k n. pick (eqb k 3) (fault 3 (at + 1)) (found k n))
 
 -- a theory statement of the type k
-unfoldable pub theoryOf : (k place : ℕ) → Reader Line
-theoryOf k place =
-    pick (eqb k 0) (numericLine place)
-    (pick (eqb k 1) (stringLine place)
-    (pick (eqb k 2) (compoundLine place)
-    (pick (eqb k 4) (elementLine place)
-    (pick (eqb k 5) (theoryLine place) (guardedLine place)))))
+unfoldable pub theoryOf : (k : ℕ) → Reader Statement
+theoryOf k =
+    pick (eqb k 0) numericLine
+    (pick (eqb k 1) stringLine
+    (pick (eqb k 2) compoundLine
+    (pick (eqb k 4) elementLine
+    (pick (eqb k 5) theoryLine guardedLine))))
 
 -- the rest of `9`, theory type, ..
-unfoldable pub theoryPart : (place : ℕ) → Reader Line
-theoryPart place = do
+unfoldable pub theoryPart : Reader Statement
+theoryPart = do
   k ← theoryType
-  theoryOf k place
+  theoryOf k
 
 -- a statement of the type k: 2, 3 and 5 to 8 are not carried
-unfoldable pub statementOf : (k place : ℕ) → Reader Line
+unfoldable pub statementOf : (k place : ℕ) → Reader Statement
 statementOf k place =
-    pick (eqb k 1) (ruleLine place)
-    (pick (eqb k 4) (outputLine place)
-    (pick (eqb k 9) (theoryPart place)
-    (pick (eqb k 10) (commentLine place) (λ s at. fault 4 place))))
+    pick (eqb k 1) ruleLine
+    (pick (eqb k 4) outputLine
+    (pick (eqb k 9) theoryPart
+    (pick (eqb k 10) commentLine (λ s at. fault 4 place))))
 
 -- ---- the text
 
+-- the rest of a line of the type k: what it says, and its end
+unfoldable pub lineOf : (k place : ℕ) → Reader Line
+lineOf k place = do
+  x ← statementOf k place
+  lineEnd
+  pure (record { place = place; says = x })
+
 -- the end of the last line, and nothing after it
 unfoldable pub lastLine : Reader Unit
-lastLine s at = bind (byte 10 s at) (λ u n. pick (ltb n (length s)) (fault 3 n) (found tt n))
+lastLine = do
+  lineEnd
+  textEnd
 
 -- at most n lines, of which the line `0` is the last
 unfoldable pub lines : (n : ℕ) → Reader (List Line)
@@ -173,11 +176,11 @@ lines (suc n) s at =
     bind (natural 3 10 s at) (λ k m.
     (pick (eqb k 0)
     (lastLine >> pure [])
-    (statementOf k at >>= (λ x. lines n >>= (λ xs. pure (x ∷ xs))))) s m)
+    (lineOf k at >>= (λ x. lines n >>= (λ xs. pure (x ∷ xs))))) s m)
 
 -- the end of the first line: a tag, after a space, is not carried
 unfoldable pub noTag : Reader Unit
-noTag s at = pick (eqb (byteAt s at) 32) (fault 4 at) (byte 10 s at)
+noTag s at = pick (eqb (byteAt s at) 32) (fault 4 at) (lineEnd s at)
 
 -- `asp 1 0 0`
 unfoldable pub firstLine : Reader Unit

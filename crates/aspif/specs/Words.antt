@@ -9,9 +9,7 @@ use lib.Dec.{eqb}
 use lib.IntN.{ℤ, pos, negsuc}
 use lib.ListN.{length, getD, take, drop}
 use Rattle.faults.specs.Answer.{pick}
-use Rattle.fields.specs.Reading.{found, Reader, bind}
-use Rattle.fields.specs.Fields.{byte}
-use Rattle.fields.specs.Tape.{Written, written, listed}
+use Rattle.fields.specs.Tape.{listed}
 use Rattle.aspif.specs.Statements.{Literal, positive, negated, Head, empty, single, choice, Statement, rule, output, numeric, string, compound, element, theory, guarded, comment, Line}
 use Rattle.aspif.specs.Grammar.{Front, literalOf, integerOf, headOf}
 
@@ -53,10 +51,6 @@ words x = wordsAt (x .place) (x .says)
 abbrev pub allWords : List Line → List ℕ
 allWords [] = []
 allWords (x ∷ xs) = words x ++ allWords xs
-
--- the line end behind the words of a line, which leaves the tape as it is
-abbrev pub ended : List ℕ → (next : ℕ) → Reader Written
-ended t o s at = bind (byte 10 s at) (λ u n. found (written t o) n)
 
 -- ---- the line that stands at a place of a tape
 

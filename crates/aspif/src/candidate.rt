@@ -86,16 +86,15 @@ fn ascending(c: Cursor, s: &[u8], x: &mut [u8]) -> Marked
         };
         let i = v.0 as usize;
         x[i] = 1;
-        if e.look(s) != 32 {
-            let b = ending(e, s);
-            let Passed::Got(_) = b else {
-                return Marked::Refused(b.refusal());
+        let b = e.byte(s, 32);
+        let Passed::Got(next) = b else {
+            let z = ending(e, s);
+            let Passed::Got(_) = z else {
+                return Marked::Refused(z.refusal());
             };
             return Marked::Done;
-        }
-        let at = e.at;
-        let next = at + 1;
-        d = Cursor { at: next };
+        };
+        d = next;
         low = v.0;
     }
     let place = d.at;
@@ -107,13 +106,14 @@ pub fn candidate(s: &[u8], x: &mut [u8]) -> Marked
     requires { ⌜ Blank (now x) ⌝ }
     ensures { λ r. ⌜ asMarked r (now (x .exit)) ≡ candidate (now (s .entry)) ⌝ }
 {
-    let c = Cursor { at: 0 };
-    if c.look(s) == 10 {
-        let a = ending(c, s);
-        let Passed::Got(_) = a else {
-            return Marked::Refused(a.refusal());
-        };
-        return Marked::Done;
-    }
-    ascending(c, s, x)
+    let c = Cursor::start();
+    let a = c.line_end(s);
+    let Passed::Got(_) = a else {
+        return ascending(c, s, x);
+    };
+    let b = ending(c, s);
+    let Passed::Got(_) = b else {
+        return Marked::Refused(b.refusal());
+    };
+    Marked::Done
 }

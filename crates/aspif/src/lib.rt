@@ -27,7 +27,7 @@ pub fn read(s: &[u8], tape: &mut [u32]) -> Step
     ensures { λ r. ⌜ mapped (linesOf (now (tape .exit))) (asStep r) ≡ statements (now (s .entry)) ⌝ }
     ensures { λ r. ⌜ tapedIf r (now (tape .exit)) ⌝ }
 {
-    let start = Cursor { at: 0 };
+    let start = Cursor::start();
     let a = first_line(start, s);
     let Passed::Got(c) = a else {
         return Step::Refused(a.refusal());

@@ -7,7 +7,7 @@ ghost use Rattle.faults.specs.Values.{asStep};
 ghost use Rattle.fields.specs.Tape.{onTape};
 ghost use Rattle.fields.specs.Values.{asPassed, asWrote, roomy};
 ghost use Rattle.aspif.specs.Grammar.{answer, firstLine, lastLine, statementOf, lines};
-ghost use Rattle.aspif.specs.Words.{words, linesOf};
+ghost use Rattle.aspif.specs.Words.{wordsAt, linesOf};
 ghost use Rattle.aspif.specs.Values.{asTape, taped, tapedIf};
 use crate::rules::comment_line;
 use crate::rules::output_line;
@@ -36,32 +36,25 @@ pub fn first_line(c: Cursor, s: &[u8]) -> Passed
             place,
         });
     }
-    d.byte(s, 10)
+    d.line_end(s)
 }
 
 // The end of the last line, and nothing after it.
 pub fn last_line(c: Cursor, s: &[u8]) -> Passed
     ensures { λ r. ⌜ asPassed r ≡ lastLine (now (s .entry)) (c .at) ⌝ }
 {
-    let a = c.byte(s, 10);
+    let a = c.line_end(s);
     let Passed::Got(d) = a else {
         return a;
     };
-    let at = d.at;
-    if at < s.len() {
-        return Passed::Refused(Refusal {
-            kind: Kind::Grammar,
-            place: at,
-        });
-    }
-    Passed::Got(Cursor { at })
+    d.text_end(s)
 }
 
-// The rest of a line of the type k, onto the tape from `out` on.
+// A statement of the type k, onto the tape from `out` on.
 fn statement_of(c: Cursor, s: &[u8], k: u32, place: usize, tape: &mut [u32], out: usize) -> Wrote
     requires { ⌜ (out ≤ place) × (place < c .at) × (length (now s) ≤ length (now tape)) × (length (now s) ≤ 60000) × (place < 60000) ⌝ }
     requires { ⌜ (k ≡ 10 → place + 1 < c .at) ⌝ }
-    ensures { λ r. ⌜ asWrote r (now (tape .exit)) ≡ onTape words (now (tape .entry)) out (statementOf k place (now (s .entry)) (c .at)) ⌝ }
+    ensures { λ r. ⌜ asWrote r (now (tape .exit)) ≡ onTape (wordsAt place) (now (tape .entry)) out (statementOf k place (now (s .entry)) (c .at)) ⌝ }
     ensures { λ r. ⌜ roomy r ⌝ }
 {
     let line = place as u32;
@@ -111,7 +104,11 @@ pub fn lines(c: Cursor, s: &[u8], n: usize, tape: &mut [u32]) -> Step
         let Wrote::Got(f, p) = w else {
             return Step::Refused(w.refusal());
         };
-        d = f;
+        let z = f.line_end(s);
+        let Passed::Got(g) = z else {
+            return Step::Refused(z.refusal());
+        };
+        d = g;
         o = p;
         left -= 1;
     }

@@ -5,10 +5,9 @@ ghost use lib.ListN.{length};
 ghost use Rattle.fields.specs.Tape.{onTape, listed};
 ghost use Rattle.fields.specs.Values.{asPassed, asWrote, roomy};
 ghost use Rattle.aspif.specs.Grammar.{heads, bodyKind, literals, body, ruleLine, outputLine, commentLine};
-ghost use Rattle.aspif.specs.Words.{words};
+ghost use Rattle.aspif.specs.Words.{wordsAt};
 use crate::tape::begin;
 use crate::tape::begin_with;
-use crate::tape::end_line;
 use faults::Kind;
 use faults::Refusal;
 use fields::Cursor;
@@ -73,7 +72,7 @@ fn body(c: Cursor, s: &[u8], tape: &mut [u32], out: usize) -> Wrote
 // A rule: head and body.
 pub fn rule_line(c: Cursor, s: &[u8], place: u32, tape: &mut [u32], out: usize) -> Wrote
     requires { ⌜ (out < c .at) × (length (now s) ≤ length (now tape)) ⌝ }
-    ensures { λ r. ⌜ asWrote r (now (tape .exit)) ≡ onTape words (now (tape .entry)) out (ruleLine place (now (s .entry)) (c .at)) ⌝ }
+    ensures { λ r. ⌜ asWrote r (now (tape .exit)) ≡ onTape (wordsAt place) (now (tape .entry)) out (ruleLine (now (s .entry)) (c .at)) ⌝ }
     ensures { λ r. ⌜ roomy r ⌝ }
 {
     let a = c.next_natural(s, 1, Kind::Grammar);
@@ -85,20 +84,16 @@ pub fn rule_line(c: Cursor, s: &[u8], place: u32, tape: &mut [u32], out: usize) 
     let Wrote::Got(e, o2) = h else {
         return h;
     };
-    let b = body(e, s, tape, o2);
-    let Wrote::Got(f, o3) = b else {
-        return b;
-    };
-    end_line(f, s, o3)
+    body(e, s, tape, o2)
 }
 
 // An output: a string and literals.
 pub fn output_line(c: Cursor, s: &[u8], place: u32, tape: &mut [u32], out: usize) -> Wrote
     requires { ⌜ (out < c .at) × (length (now s) ≤ length (now tape)) ⌝ }
-    ensures { λ r. ⌜ asWrote r (now (tape .exit)) ≡ onTape words (now (tape .entry)) out (outputLine place (now (s .entry)) (c .at)) ⌝ }
+    ensures { λ r. ⌜ asWrote r (now (tape .exit)) ≡ onTape (wordsAt place) (now (tape .entry)) out (outputLine (now (s .entry)) (c .at)) ⌝ }
     ensures { λ r. ⌜ roomy r ⌝ }
 {
-    let a = c.string_length(s);
+    let a = c.natural_then(s, 4096, Kind::Bounds, 32);
     let WordField::Got(n, d) = a else {
         return Wrote::Refused(a.refusal());
     };
@@ -107,17 +102,13 @@ pub fn output_line(c: Cursor, s: &[u8], place: u32, tape: &mut [u32], out: usize
     let Wrote::Got(e, o2) = t else {
         return t;
     };
-    let b = literals(e, s, tape, o2);
-    let Wrote::Got(f, o3) = b else {
-        return b;
-    };
-    end_line(f, s, o3)
+    literals(e, s, tape, o2)
 }
 
 // A comment: a space, and anything up to the line end.
 pub fn comment_line(c: Cursor, s: &[u8], place: u32, tape: &mut [u32], out: usize) -> Wrote
     requires { ⌜ (out + 1 < c .at) × (length (now s) ≤ length (now tape)) × (length (now s) ≤ 60000) ⌝ }
-    ensures { λ r. ⌜ asWrote r (now (tape .exit)) ≡ onTape words (now (tape .entry)) out (commentLine place (now (s .entry)) (c .at)) ⌝ }
+    ensures { λ r. ⌜ asWrote r (now (tape .exit)) ≡ onTape (wordsAt place) (now (tape .entry)) out (commentLine (now (s .entry)) (c .at)) ⌝ }
     ensures { λ r. ⌜ roomy r ⌝ }
 {
     let a = c.byte(s, 32);
@@ -125,9 +116,5 @@ pub fn comment_line(c: Cursor, s: &[u8], place: u32, tape: &mut [u32], out: usiz
         return Wrote::Refused(a.refusal());
     };
     let o1 = begin(tape, out, 10, place);
-    let t = d.rest(s, tape, o1);
-    let Wrote::Got(e, o2) = t else {
-        return t;
-    };
-    end_line(e, s, o2)
+    d.rest(s, tape, o1)
 }

@@ -5,10 +5,9 @@ ghost use lib.ListN.{length};
 ghost use Rattle.fields.specs.Tape.{onTape};
 ghost use Rattle.fields.specs.Values.{asWord, asWrote, roomy};
 ghost use Rattle.aspif.specs.Grammar.{numericLine, stringLine, compoundLine, elementLine, front, theoryLine, guardedLine, theoryType, theoryOf, theoryPart};
-ghost use Rattle.aspif.specs.Words.{words, frontWords};
+ghost use Rattle.aspif.specs.Words.{wordsAt, frontWords};
 use crate::rules::literals;
 use crate::tape::begin_with;
-use crate::tape::end_line;
 use crate::tape::put;
 use faults::Kind;
 use faults::Refusal;
@@ -23,7 +22,7 @@ use fields::Wrote;
 // `u w`: term u is the integer w.
 fn numeric_line(c: Cursor, s: &[u8], place: u32, tape: &mut [u32], out: usize) -> Wrote
     requires { ⌜ (out < c .at) × (length (now s) ≤ length (now tape)) ⌝ }
-    ensures { λ r. ⌜ asWrote r (now (tape .exit)) ≡ onTape words (now (tape .entry)) out (numericLine place (now (s .entry)) (c .at)) ⌝ }
+    ensures { λ r. ⌜ asWrote r (now (tape .exit)) ≡ onTape (wordsAt place) (now (tape .entry)) out (numericLine (now (s .entry)) (c .at)) ⌝ }
     ensures { λ r. ⌜ roomy r ⌝ }
 {
     let a = c.next_term(s);
@@ -36,35 +35,31 @@ fn numeric_line(c: Cursor, s: &[u8], place: u32, tape: &mut [u32], out: usize) -
     };
     let o1 = begin_with(tape, out, 90, place, u.0);
     let o2 = put(tape, o1, w);
-    end_line(e, s, o2)
+    Wrote::Got(e, o2)
 }
 
 // `u n s`: term u is the string s.
 fn string_line(c: Cursor, s: &[u8], place: u32, tape: &mut [u32], out: usize) -> Wrote
     requires { ⌜ (out < c .at) × (length (now s) ≤ length (now tape)) ⌝ }
-    ensures { λ r. ⌜ asWrote r (now (tape .exit)) ≡ onTape words (now (tape .entry)) out (stringLine place (now (s .entry)) (c .at)) ⌝ }
+    ensures { λ r. ⌜ asWrote r (now (tape .exit)) ≡ onTape (wordsAt place) (now (tape .entry)) out (stringLine (now (s .entry)) (c .at)) ⌝ }
     ensures { λ r. ⌜ roomy r ⌝ }
 {
     let a = c.next_term(s);
     let TermField::Got(u, d) = a else {
         return Wrote::Refused(a.refusal());
     };
-    let b = d.string_length(s);
+    let b = d.natural_then(s, 4096, Kind::Bounds, 32);
     let WordField::Got(n, e) = b else {
         return Wrote::Refused(b.refusal());
     };
     let o1 = begin_with(tape, out, 91, place, u.0);
-    let t = e.listed(s, Item::Char, n, tape, o1);
-    let Wrote::Got(f, o2) = t else {
-        return t;
-    };
-    end_line(f, s, o2)
+    e.listed(s, Item::Char, n, tape, o1)
 }
 
 // `u t n u1..un`: term u is a compound.
 fn compound_line(c: Cursor, s: &[u8], place: u32, tape: &mut [u32], out: usize) -> Wrote
     requires { ⌜ (out < c .at) × (length (now s) ≤ length (now tape)) ⌝ }
-    ensures { λ r. ⌜ asWrote r (now (tape .exit)) ≡ onTape words (now (tape .entry)) out (compoundLine place (now (s .entry)) (c .at)) ⌝ }
+    ensures { λ r. ⌜ asWrote r (now (tape .exit)) ≡ onTape (wordsAt place) (now (tape .entry)) out (compoundLine (now (s .entry)) (c .at)) ⌝ }
     ensures { λ r. ⌜ roomy r ⌝ }
 {
     let a = c.next_term(s);
@@ -77,17 +72,13 @@ fn compound_line(c: Cursor, s: &[u8], place: u32, tape: &mut [u32], out: usize) 
     };
     let o1 = begin_with(tape, out, 92, place, u.0);
     let o2 = put(tape, o1, w);
-    let t = e.counted(s, Item::Term, 4096, Kind::Bounds, tape, o2);
-    let Wrote::Got(f, o3) = t else {
-        return t;
-    };
-    end_line(f, s, o3)
+    e.counted(s, Item::Term, 4096, Kind::Bounds, tape, o2)
 }
 
 // `v n u1..un m l1..lm`: element v with terms and condition literals.
 fn element_line(c: Cursor, s: &[u8], place: u32, tape: &mut [u32], out: usize) -> Wrote
     requires { ⌜ (out < c .at) × (length (now s) ≤ length (now tape)) ⌝ }
-    ensures { λ r. ⌜ asWrote r (now (tape .exit)) ≡ onTape words (now (tape .entry)) out (elementLine place (now (s .entry)) (c .at)) ⌝ }
+    ensures { λ r. ⌜ asWrote r (now (tape .exit)) ≡ onTape (wordsAt place) (now (tape .entry)) out (elementLine (now (s .entry)) (c .at)) ⌝ }
     ensures { λ r. ⌜ roomy r ⌝ }
 {
     let a = c.next_element(s);
@@ -99,11 +90,7 @@ fn element_line(c: Cursor, s: &[u8], place: u32, tape: &mut [u32], out: usize) -
     let Wrote::Got(e, o2) = t else {
         return t;
     };
-    let b = literals(e, s, tape, o2);
-    let Wrote::Got(f, o3) = b else {
-        return b;
-    };
-    end_line(f, s, o3)
+    literals(e, s, tape, o2)
 }
 
 // `a p n v1..vn` of a theory atom, behind the kind of its line.
@@ -128,20 +115,16 @@ fn front(c: Cursor, s: &[u8], kind: u32, place: u32, tape: &mut [u32], out: usiz
 // `a p n v1..vn`: a theory atom.
 fn theory_line(c: Cursor, s: &[u8], place: u32, tape: &mut [u32], out: usize) -> Wrote
     requires { ⌜ (out < c .at) × (length (now s) ≤ length (now tape)) ⌝ }
-    ensures { λ r. ⌜ asWrote r (now (tape .exit)) ≡ onTape words (now (tape .entry)) out (theoryLine place (now (s .entry)) (c .at)) ⌝ }
+    ensures { λ r. ⌜ asWrote r (now (tape .exit)) ≡ onTape (wordsAt place) (now (tape .entry)) out (theoryLine (now (s .entry)) (c .at)) ⌝ }
     ensures { λ r. ⌜ roomy r ⌝ }
 {
-    let t = front(c, s, 95, place, tape, out);
-    let Wrote::Got(d, o) = t else {
-        return t;
-    };
-    end_line(d, s, o)
+    front(c, s, 95, place, tape, out)
 }
 
 // `a p n v1..vn g u`: a theory atom with an operator and a bound.
 fn guarded_line(c: Cursor, s: &[u8], place: u32, tape: &mut [u32], out: usize) -> Wrote
     requires { ⌜ (out < c .at) × (length (now s) ≤ length (now tape)) ⌝ }
-    ensures { λ r. ⌜ asWrote r (now (tape .exit)) ≡ onTape words (now (tape .entry)) out (guardedLine place (now (s .entry)) (c .at)) ⌝ }
+    ensures { λ r. ⌜ asWrote r (now (tape .exit)) ≡ onTape (wordsAt place) (now (tape .entry)) out (guardedLine (now (s .entry)) (c .at)) ⌝ }
     ensures { λ r. ⌜ roomy r ⌝ }
 {
     let t = front(c, s, 96, place, tape, out);
@@ -158,7 +141,7 @@ fn guarded_line(c: Cursor, s: &[u8], place: u32, tape: &mut [u32], out: usize) -
     };
     let o2 = put(tape, o1, g.0);
     let o3 = put(tape, o2, u.0);
-    end_line(f, s, o3)
+    Wrote::Got(f, o3)
 }
 
 // The type of a theory statement: 0, 1, 2, 4, 5 or 6.
@@ -183,7 +166,7 @@ fn theory_type(c: Cursor, s: &[u8]) -> WordField
 // A theory statement of the type k.
 fn theory_of(c: Cursor, s: &[u8], k: u32, place: u32, tape: &mut [u32], out: usize) -> Wrote
     requires { ⌜ (out < c .at) × (length (now s) ≤ length (now tape)) ⌝ }
-    ensures { λ r. ⌜ asWrote r (now (tape .exit)) ≡ onTape words (now (tape .entry)) out (theoryOf k place (now (s .entry)) (c .at)) ⌝ }
+    ensures { λ r. ⌜ asWrote r (now (tape .exit)) ≡ onTape (wordsAt place) (now (tape .entry)) out (theoryOf k (now (s .entry)) (c .at)) ⌝ }
     ensures { λ r. ⌜ roomy r ⌝ }
 {
     if k == 0 {
@@ -207,7 +190,7 @@ fn theory_of(c: Cursor, s: &[u8], k: u32, place: u32, tape: &mut [u32], out: usi
 // A theory statement: its type, and the rest of its line.
 pub fn theory_part(c: Cursor, s: &[u8], place: u32, tape: &mut [u32], out: usize) -> Wrote
     requires { ⌜ (out < c .at) × (length (now s) ≤ length (now tape)) ⌝ }
-    ensures { λ r. ⌜ asWrote r (now (tape .exit)) ≡ onTape words (now (tape .entry)) out (theoryPart place (now (s .entry)) (c .at)) ⌝ }
+    ensures { λ r. ⌜ asWrote r (now (tape .exit)) ≡ onTape (wordsAt place) (now (tape .entry)) out (theoryPart (now (s .entry)) (c .at)) ⌝ }
     ensures { λ r. ⌜ roomy r ⌝ }
 {
     let a = theory_type(c, s);

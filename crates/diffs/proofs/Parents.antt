@@ -66,7 +66,7 @@ module _ (m : ℕ) (c : ℕ → Diff) (b i : ℕ) (t p s : ℕ → ℕ) (v : Inv
   closed-cycle : (a : ℕ) (es : List Diff) → 0 < length es → Path a es a → All Used es → Distinct (seconds es) → NegCycle (Among m c) es
   closed-cycle a es n q u w = record {
     members = all-map Used (Among m c) used-among es u;
-    cycle = record { start = a; closed = q; different = closed-different a es q w };
+    cycle = record { some = n; start = a; closed = q; different = closed-different a es q w };
     below = closed-below a es n q u;
   }
 

@@ -2,6 +2,8 @@
 use mathlib.Core.Path.{_≡_, refl, ap, subst, sym, _∙_}
 use mathlib.Core.List.{List, [], _∷_, _++_, map-append}
 use Prim.Native.Nat.{ℕ}
+use native.Mathlib.Omega.{arith}
+use lib.ListN.{length-append}
 use lib.IntN.{ℤ, pos, _+ℤ_, +ℤ-idl, +ℤ-assoc, +ℤ-comm}
 use lib.Signed.{_<ℤ_}
 use Rattle.diffs.specs.Diff.{Diff, Distinct, Path, firsts, Sum, NegCycle}
@@ -31,6 +33,7 @@ turn S l r c =
     record {
       members = all-swap S l r (c .members);
       cycle = record {
+        some = omega (arith, c .cycle .some, length-append l r, length-append r l);
         start = q .0;
         closed = path-join (q .0) r (c .cycle .start) l (q .0) (q .2) (q .1);
         different = subst Distinct (sym (map-append (λ (d : Diff). d .x) r l)) (distinct-swap (firsts l) (firsts r) (subst Distinct (map-append (λ (d : Diff). d .x) l r) (c .cycle .different)));

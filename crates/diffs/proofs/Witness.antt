@@ -81,7 +81,7 @@ plan-P-decided o t room room′ (cyclic m e s) n =
 pub plan-Q-cycle : NegCycle (Among 2 (plan (negsuc 44))) (map (plan (negsuc 44)) (0 ∷ (1 ∷ [])))
 plan-Q-cycle = record {
   members = (record { number = 0; within = lit< tt; is = refl }, (record { number = 1; within = lit< tt; is = refl }, tt));
-  cycle = record { start = 4; closed = (refl, (refl, refl)); different = ((λ e. let z : ⊥ = omega arith in z, tt), (tt, tt)) };
+  cycle = record { some = omega arith; start = 4; closed = (refl, (refl, refl)); different = ((λ e. let z : ⊥ = omega arith in z, tt), (tt, tt)) };
   below = ltZ-yes tt;
 }
 

@@ -3,8 +3,9 @@
 use mathlib.Core.Path.{_≡_}
 use mathlib.Core.Logic.{_≢_}
 use mathlib.Core.List.{List, [], _∷_, map}
-use Prim.Native.Nat.{ℕ, _≤_}
+use Prim.Native.Nat.{ℕ, _≤_, _<_}
 use lib.IntN.{ℤ, pos, _+ℤ_, _-ℤ_}
+use lib.ListN.{length}
 use lib.Signed.{_≤ℤ_, _<ℤ_}
 
 -- x - y ≤ k
@@ -58,8 +59,9 @@ abbrev pub Sum : List Diff → ℤ
 Sum [] = pos 0
 Sum (d ∷ ds) = d .k +ℤ Sum ds
 
--- x1 - x2 ≤ k1, x2 - x3 ≤ k2, .., xn - x1 ≤ kn, the names x1 to xn all different
+-- x1 - x2 ≤ k1, x2 - x3 ≤ k2, .., xn - x1 ≤ kn, at least one, the names x1 to xn all different
 pub record Cycle (ds : List Diff) : Type 0 where
+  pub some : 0 < length ds
   pub start : ℕ
   pub closed : Path start ds start
   pub different : Distinct (firsts ds)

@@ -9,7 +9,7 @@ use lib.Dec.{eqb, lit<}
 use borrow.Author.Tests.{eqb-true, eqb-false}
 use Rattle.faults.specs.Answer.{pick}
 use Rattle.fields.specs.Reading.{Reading, found, fault, bind, placed}
-use Rattle.fields.specs.Fields.{stringLength, byteAt, byte, natural, negative, integer, nextInteger, literal, atom, nextAtom, item, next, nextNatural, char, nextTerm, nextElement}
+use Rattle.fields.specs.Fields.{naturalThen, byteAt, byte, lineEnd, natural, negative, integer, nextInteger, literal, atom, nextAtom, item, next, nextNatural, char, nextTerm, nextElement}
 use Rattle.fields.specs.declared.Item.{Item}
 use Rattle.fields.proofs.Naturals.{there, natural-within}
 use Rattle.fields.specs.declared.Item.the-variants as of
@@ -58,6 +58,10 @@ module _ (s : List ℕ) (at : ℕ) where
           ahead-found s at tt (at + 1) (omega arith) (omega arith)
       go false q = ahead-fault s at 3 at
 
+  pub lineEnd-ahead : Ahead s at (lineEnd s at)
+  unfolding lineEnd
+  lineEnd-ahead = byte-ahead 10 (lit< tt)
+
   pub natural-ahead : (k most : ℕ) → Ahead s at (natural k most s at)
   natural-ahead k most = record { ends = λ v n e. let h = natural-within k most s at v n e in (h .1, h .2) }
 
@@ -103,11 +107,11 @@ pub nextElement-far : (s : List ℕ) (at : ℕ) → Ahead s (at + 1) (nextElemen
 unfolding nextElement
 nextElement-far s at = nextNatural-far 5 1023 s at
 
-pub stringLength-far : (s : List ℕ) (at : ℕ) → Ahead s (at + 2) (stringLength s at)
-unfolding stringLength
-stringLength-far s at =
-    ahead-then s (at + 2) (at + 1) _ _ (nextNatural-far 5 4096 s at) (λ k n l w.
-    ahead-then s (at + 2) n _ _ (byte-ahead s n 32 (lit< tt)) (λ u m i j. ahead-found s (at + 2) k m (omega arith) j))
+pub naturalThen-far : (k most b : ℕ) → 0 < b → (s : List ℕ) (at : ℕ) → Ahead s (at + 2) (naturalThen k most b s at)
+unfolding naturalThen
+naturalThen-far k most b h s at =
+    ahead-then s (at + 2) (at + 1) _ _ (nextNatural-far k most s at) (λ v n l w.
+    ahead-then s (at + 2) n _ _ (byte-ahead s n b h) (λ u m i j. ahead-found s (at + 2) v m (omega arith) j))
 
 char-ahead : (s : List ℕ) (at : ℕ) → Ahead s at (char s at)
 unfolding char

@@ -3,8 +3,8 @@ use Prim.Native.Nat.{ℕ, _+_, _-_, _≤_, _<_, min}
 use mathlib.Core.Path.{_≡_, refl, sym, ap, _∙_}
 use mathlib.Core.List.{List}
 use mathlib.Core.Bool.{Bool, true, false}
-use borrow.Author.Tests.{eq-eqb, ne-eqb, le-leb, lt-leb, leb-true, ltb-true, ltb-false}
-use lib.Dec.{leb, ltb}
+use borrow.Author.Tests.{eq-eqb, ne-eqb, eqb-true, le-leb, lt-leb, leb-true, ltb-true, ltb-false}
+use lib.Dec.{eqb, leb, ltb}
 use native.Mathlib.Omega.{arith}
 use lib.ListN.{length, take, drop, length-drop, List·getD-eq-default}
 use Rattle.faults.specs.Answer.{pick}
@@ -70,6 +70,22 @@ module _ (b : ℕ) (s : List ℕ) (at : ℕ) where
   pub byte-other : (byteAt s at ≡ b → ⊥) → fault 3 at ≡ byte b s at
   unfolding byte
   byte-other n = rw (ne-eqb _ _ n)
+
+  -- a byte that was read stands there
+  pub byte-read : {n : ℕ} → found tt n ≡ byte b s at → (byteAt s at ≡ b) × (n ≡ at + 1)
+  unfolding byte
+  byte-read {n} = go (eqb (byteAt s at) b) refl
+    where
+      go : (t : Bool) → eqb (byteAt s at) b ≡ t → found (tt {0}) n ≡ pick t (found tt (at + 1)) (fault 3 at) → (byteAt s at ≡ b) × (n ≡ at + 1)
+      go true q e = (eqb-true (byteAt s at) b q, (cc))
+      go false q e = let z : _≡_ {A = ℕ} 0 1 = (cc) in absurd (omega arith)
+
+  -- and one that was missed does not
+  pub byte-missed : {k p : ℕ} → fault k p ≡ byte b s at → byteAt s at ≡ b → ⊥
+  byte-missed e h =
+      let f = byte-there h in
+      let z : _≡_ {A = ℕ} 0 1 = (cc) in
+      omega arith
 
   -- a byte other than 0 stands within the text
   pub there : 0 < b → byteAt s at ≡ b → at < length s

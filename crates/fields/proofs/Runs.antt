@@ -2,13 +2,14 @@
 use Prim.Native.Nat.{ℕ, _+_, _≤_, _<_}
 use mathlib.Core.Path.{_≡_, refl, ap}
 use mathlib.Core.List.{List, [], _∷_}
-use mathlib.Core.Bool.{Bool, true, false}
+use mathlib.Core.Bool.{Bool, true, false, _||_}
 use native.Mathlib.Omega.{arith}
 use native.Mathlib.Numerals.{add-one}
+use lib.Dec.{eqb}
 use lib.ListN.{length, getD, take, drop, drop-of-length-le}
 use lib.Seq.{drop-cons}
 use Rattle.faults.specs.Answer.{pick}
-use Rattle.fields.specs.Fields.{upTo}
+use Rattle.fields.specs.Fields.{upTo, isEither}
 
 module _ (ends : ℕ → Bool) (s : List ℕ) (i : ℕ) where
   pub run-out : length s ≤ i → upTo ends (drop i s) ≡ []
@@ -42,3 +43,13 @@ upTo-take ends (b ∷ bs) = go (ends b) (upTo-take ends bs)
         → take (length (pick t [] (b ∷ upTo ends bs))) (b ∷ bs) ≡ pick t [] (b ∷ upTo ends bs)
     go true h = refl
     go false h = ap {B = List ℕ} (λ r. b ∷ r) h
+
+-- a byte or the same byte is that byte
+pub upTo-once : (b : ℕ) (l : List ℕ) → upTo (isEither b b) l ≡ upTo (λ c. eqb c b) l
+unfolding upTo
+upTo-once b [] = refl
+upTo-once b (c ∷ cs) = go (eqb c b) (upTo-once b cs)
+  where
+    go : (t : Bool) → upTo (isEither b b) cs ≡ upTo (λ c. eqb c b) cs → pick (t || t) [] (c ∷ upTo (isEither b b) cs) ≡ pick t [] (c ∷ upTo (λ c. eqb c b) cs)
+    go true e = refl
+    go false e = ap {B = List ℕ} (λ r. c ∷ r) e

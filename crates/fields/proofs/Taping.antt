@@ -133,3 +133,17 @@ module _ (t : List ℕ) (o : ℕ) where
   pub on-more : (ws xs : List ℕ) {t′ t″ : List ℕ} {o′ o″ : ℕ} → On t o ws t′ o′ → t″ ≡ sets t′ o′ xs → o″ ≡ o′ + length xs → On t o (ws ++ xs) t″ o″
   on-more ws xs h p q =
       record { tape = rw (p, h .tape, h .next, sets-append t o ws xs); next = omega (arith, length-append ws xs, h .next) }
+
+  -- the words so far are those of a value
+  pub on-found : {A : Type 0} (words : A → List ℕ) (x : A) (n : ℕ) (ws : List ℕ) {t′ : List ℕ} {o′ : ℕ} → On t o ws t′ o′ → words x ≡ ws → found (written t′ o′) n ≡ onTape words t o (found x n)
+  unfolding onTape
+  on-found words x n ws h e = rw (h .tape, h .next, e)
+
+  -- a list that is read behind the words so far, and what is made of it
+  pub on-last : {A : Type 0} (words : A → List ℕ) (make : List ℕ → A) (ws : List ℕ) (r : Reading (List ℕ)) {t′ : List ℕ} {o′ : ℕ} → On t o ws t′ o′
+      → ((xs : List ℕ) → words (make xs) ≡ ws ++ listed xs) → onTape listed t′ o′ r ≡ onTape words t o (bind r (λ xs n. found (make xs) n))
+  unfolding onTape
+  on-last words make ws (found xs n) h e =
+      let m = on-more ws (listed xs) h refl refl in
+      rw (m .tape, m .next, e xs)
+  on-last words make ws (fault k p) h e = refl

@@ -27,6 +27,14 @@ bytes (b ∷ bs) = do
   byte b
   bytes bs
 
+-- every line is ended by byte 10
+unfoldable pub lineEnd : Reader Unit
+lineEnd = byte 10
+
+-- nothing stands at the place or after it
+unfoldable pub textEnd : Reader Unit
+textEnd s at = pick (ltb at (length s)) (fault 3 at) (found tt at)
+
 unfoldable pub allPositive : List ℕ → Bool
 allPositive [] = true
 allPositive (b ∷ bs) = ltb 0 b && allPositive bs
@@ -36,13 +44,17 @@ unfoldable pub upTo : (ℕ → Bool) → List ℕ → List ℕ
 upTo ends [] = []
 upTo ends (b ∷ bs) = pick (ends b) [] (b ∷ upTo ends bs)
 
+-- one of two bytes
+abbrev pub isEither : (x y : ℕ) → ℕ → Bool
+isEither x y b = eqb b x || eqb b y
+
 -- a space or a line end
 abbrev pub isSeparator : ℕ → Bool
-isSeparator b = eqb b 32 || eqb b 10
+isSeparator = isEither 32 10
 
 -- no string and no comment holds these
 abbrev pub isForbidden : ℕ → Bool
-isForbidden b = eqb b 0 || eqb b 10
+isForbidden = isEither 0 10
 
 -- a field runs to the next space, line end or end of text
 unfoldable pub field : List ℕ → ℕ → List ℕ
@@ -87,6 +99,13 @@ next p = do
 
 unfoldable pub nextNatural : (k most : ℕ) → Reader ℕ
 nextNatural k most = next (natural k most)
+
+-- a space, a natural, and the byte b behind it
+unfoldable pub naturalThen : (k most b : ℕ) → Reader ℕ
+naturalThen k most b = do
+  n ← nextNatural k most
+  byte b
+  pure n
 
 -- ---- integers, kept as one number: 2 v, and 2 v + 1 after a minus
 
@@ -152,17 +171,10 @@ counted what k most = do
   n ← nextNatural k most
   items what n
 
--- the length of a string, and the space before its bytes
-unfoldable pub stringLength : Reader ℕ
-stringLength = do
-  n ← nextNatural 5 4096
-  byte 32
-  pure n
-
 -- a length, a space and so many bytes
 unfoldable pub string : Reader (List ℕ)
 string = do
-  n ← stringLength
+  n ← naturalThen 5 4096 32
   items of.Char n
 
 -- how many bytes stand before the next byte 0 or 10, or the end

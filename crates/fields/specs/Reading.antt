@@ -1,6 +1,7 @@
 -- What reading a text from a place on gives, and how readers follow one another. Assumes nothing.
 use Prim.Native.Nat.{ℕ}
 use mathlib.Core.List.{List}
+use mathlib.Core.Bool.{Bool, true, false}
 
 -- a value and the place after it, or a fault with its number and place
 pub data Reading (A : Type 0) : Type 0 where
@@ -10,6 +11,11 @@ pub data Reading (A : Type 0) : Type 0 where
 -- a reader of an A: from the whole text and a place in it
 abbrev pub Reader : Type 0 → Type 0
 Reader A = List ℕ → ℕ → Reading A
+
+-- whether a value is found
+abbrev pub isFound : {A : Type 0} → Reading A → Bool
+isFound (found a n) = true
+isFound (fault k p) = false
 
 abbrev pub bind : {A B : Type 0} → Reading A → (A → ℕ → Reading B) → Reading B
 bind (found a n) f = f a n

@@ -1,8 +1,8 @@
 // Bytes and digits of a text.
 ghost use mathlib.Core.Path.{_≡_};
 ghost use Prim.Native.Nat.{_+_, _-_, _≤_, min};
-ghost use lib.ListN.{length};
-ghost use Rattle.fields.specs.Fields.{byteAt, field, allDigits, isNatural, value, plain};
+ghost use lib.ListN.{length, drop};
+ghost use Rattle.fields.specs.Fields.{byteAt, upTo, isEither, field, allDigits, isNatural, value};
 
 // The byte at `at`, or 0 past the end.
 pub fn peek(s: &[u8], at: usize) -> u8
@@ -11,17 +11,17 @@ pub fn peek(s: &[u8], at: usize) -> u8
     if at < s.len() { s[at] } else { 0 }
 }
 
-// Where the field that starts at `at` ends.
-pub fn field_end(s: &[u8], at: usize) -> usize
-    ensures { λ r. ⌜ r ≡ at + length (field (now (s .entry)) at) ⌝ }
+// Where the bytes from `at` on that are neither `x` nor `y` end.
+pub fn run_end(s: &[u8], at: usize, x: u8, y: u8) -> usize
+    ensures { λ r. ⌜ r ≡ at + length (upTo (isEither x y) (drop at (now (s .entry)))) ⌝ }
 {
     let mut i = at;
     while i < s.len() {
         let b = s[i];
-        if b == 32 {
+        if b == x {
             return i;
         }
-        if b == 10 {
+        if b == y {
             return i;
         }
         i += 1;
@@ -29,22 +29,11 @@ pub fn field_end(s: &[u8], at: usize) -> usize
     i
 }
 
-// Where the bytes of a comment that starts at `at` end.
-pub fn rest_end(s: &[u8], at: usize) -> usize
-    ensures { λ r. ⌜ r ≡ at + plain (now (s .entry)) at ⌝ }
+// Where the field that starts at `at` ends.
+pub fn field_end(s: &[u8], at: usize) -> usize
+    ensures { λ r. ⌜ r ≡ at + length (field (now (s .entry)) at) ⌝ }
 {
-    let mut i = at;
-    while i < s.len() {
-        let b = s[i];
-        if b == 0 {
-            return i;
-        }
-        if b == 10 {
-            return i;
-        }
-        i += 1;
-    }
-    i
+    run_end(s, at, 32, 10)
 }
 
 // Whether each byte of `f` is a digit.

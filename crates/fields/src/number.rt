@@ -1,10 +1,10 @@
 // The fields of a line: a byte, a natural, an integer, a literal, an atom, a term number, an element number.
 ghost use mathlib.Core.Path.{_≡_};
-ghost use Prim.Native.Nat.{_≤_, _<_};
+ghost use Prim.Native.Nat.{_+_, _≤_, _<_};
 ghost use mathlib.Core.Bool.{true};
 ghost use lib.ListN.{length};
 ghost use Rattle.faults.specs.Values.{number};
-ghost use Rattle.fields.specs.Fields.{allPositive, byteAt, byte, bytes, natural, nextNatural, negative, integer, nextInteger, literal, atom, nextAtom, nextTerm, nextElement, next};
+ghost use Rattle.fields.specs.Fields.{allPositive, byteAt, byte, bytes, lineEnd, textEnd, natural, nextNatural, naturalThen, field, negative, integer, nextInteger, literal, atom, nextAtom, nextTerm, nextElement, next};
 ghost use Rattle.fields.specs.Values.{asPassed, asWord, asAtom, asTerm, asElement};
 use crate::AtomField;
 use crate::Cursor;
@@ -23,6 +23,32 @@ use faults::Refusal;
 use faults::TermNo;
 
 impl Cursor {
+    // The start of a text.
+    pub fn start() -> Cursor
+        ensures { λ r. ⌜ r .at ≡ 0 ⌝ }
+    {
+        Cursor { at: 0 }
+    }
+
+    // So many bytes further on.
+    pub fn ahead(self, n: usize) -> Cursor
+        requires { ⌜ self .at + n < 18446744073709551616 ⌝ }
+        ensures { λ r. ⌜ r .at ≡ self .at + n ⌝ }
+    {
+        let at = self.at;
+        let to = at + n;
+        Cursor { at: to }
+    }
+
+    // Behind the field at the cursor, whatever it is.
+    pub fn past_field(self, s: &[u8]) -> Cursor
+        ensures { λ r. ⌜ r .at ≡ self .at + length (field (now (s .entry)) (self .at)) ⌝ }
+    {
+        let at = self.at;
+        let end = field_end(s, at);
+        Cursor { at: end }
+    }
+
     // The byte at the cursor, or 0 past the end.
     pub fn look(self, s: &[u8]) -> u8
         ensures { λ r. ⌜ r ≡ byteAt (now (s .entry)) (self .at) ⌝ }
@@ -62,6 +88,27 @@ impl Cursor {
             i += 1;
         }
         Passed::Got(c)
+    }
+
+    // The end of a line.
+    pub fn line_end(self, s: &[u8]) -> Passed
+        ensures { λ r. ⌜ asPassed r ≡ lineEnd (now (s .entry)) (self .at) ⌝ }
+    {
+        self.byte(s, 10)
+    }
+
+    // The end of the text.
+    pub fn text_end(self, s: &[u8]) -> Passed
+        ensures { λ r. ⌜ asPassed r ≡ textEnd (now (s .entry)) (self .at) ⌝ }
+    {
+        let at = self.at;
+        if at < s.len() {
+            return Passed::Refused(Refusal {
+                kind: Kind::Grammar,
+                place: at,
+            });
+        }
+        Passed::Got(self)
     }
 
     // The natural at the cursor, at most `most`, and refused as `beyond` where it is more.
@@ -105,6 +152,22 @@ impl Cursor {
             return WordField::Refused(a.refusal());
         };
         c.natural(s, most, beyond)
+    }
+
+    // A space, a natural, and the byte `b`, which is not 0, behind it.
+    pub fn natural_then(self, s: &[u8], most: u32, beyond: Kind, b: u8) -> WordField
+        requires { ⌜ (most ≤ 1000000) × (0 < b) ⌝ }
+        ensures { λ r. ⌜ asWord r ≡ naturalThen (number beyond) most b (now (s .entry)) (self .at) ⌝ }
+    {
+        let a = self.next_natural(s, most, beyond);
+        let WordField::Got(v, c) = a else {
+            return a;
+        };
+        let e = c.byte(s, b);
+        let Passed::Got(d) = e else {
+            return WordField::Refused(e.refusal());
+        };
+        WordField::Got(v, d)
     }
 
     // The natural after the minus at the cursor, as 2 v + 1.

@@ -3,19 +3,18 @@ ghost use mathlib.Core.Path.{_≡_};
 ghost use Prim.Native.Nat.{_≤_, _<_};
 ghost use lib.ListN.{length};
 ghost use Rattle.faults.specs.Values.{number};
-ghost use Rattle.fields.specs.Fields.{char, item, items, counted, stringLength, rest};
+ghost use Rattle.fields.specs.Fields.{char, item, items, counted, rest};
 ghost use Rattle.fields.specs.Tape.{onTape, bare, listed};
 ghost use Rattle.fields.specs.Values.{asWord, asWrote, roomy};
 use crate::AtomField;
 use crate::Cursor;
 use crate::ElementField;
 use crate::Item;
-use crate::Passed;
 use crate::TermField;
 use crate::WordField;
 use crate::Wrote;
 use crate::digits::peek;
-use crate::digits::rest_end;
+use crate::digits::run_end;
 use faults::Kind;
 use faults::Refusal;
 
@@ -142,21 +141,6 @@ impl Cursor {
         c.listed(s, what, n, tape, out)
     }
 
-    // The length of a string, and the space before its bytes.
-    pub fn string_length(self, s: &[u8]) -> WordField
-        ensures { λ r. ⌜ asWord r ≡ stringLength (now (s .entry)) (self .at) ⌝ }
-    {
-        let a = self.next_natural(s, 4096, Kind::Bounds);
-        let WordField::Got(n, c) = a else {
-            return a;
-        };
-        let b = c.byte(s, 32);
-        let Passed::Got(d) = b else {
-            return WordField::Refused(b.refusal());
-        };
-        WordField::Got(n, d)
-    }
-
     // The bytes up to the line end behind their count, as words from `out` on.
     pub fn rest(self, s: &[u8], tape: &mut [u32], out: usize) -> Wrote
         requires { ⌜ (out < self .at) × (self .at ≤ length (now s)) × (length (now s) ≤ length (now tape)) × (length (now s) ≤ 60000) ⌝ }
@@ -164,7 +148,7 @@ impl Cursor {
         ensures { λ r. ⌜ roomy r ⌝ }
     {
         let at = self.at;
-        let end = rest_end(s, at);
+        let end = run_end(s, at, 0, 10);
         let size = end - at;
         let n = size as u32;
         self.listed(s, Item::Char, n, tape, out)

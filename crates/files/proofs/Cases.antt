@@ -9,17 +9,23 @@ use lib.Dec.{eqb, lit<}
 use lib.ListN.{length}
 use Rattle.faults.specs.Answer.{pick}
 use Rattle.fields.specs.Reading.{Reading, found, fault, bind}
-use Rattle.fields.specs.Fields.{byteAt, byte, field, nextNatural}
+use Rattle.fields.specs.Fields.{byteAt, byte, field, nextNatural, naturalThen}
 use Rattle.fields.proofs.Naturals.{there}
 use Rattle.fields.proofs.Taping.{nextNatural-within}
 use Rattle.fields.proofs.Ahead.{nextNatural-far, byte-ahead}
-use Rattle.files.specs.Cases.{caseLength, caseOf, caseAt, nextAt}
+use Rattle.files.specs.Cases.{caseOf, caseAt, nextAt}
 use Rattle.files.specs.declared.container.Case.{Case}
 use Rattle.files.specs.declared.container.Case.the-variants.{At, Nothing}
 
+-- where a name ends, by the places on the way there
+pub name-end : (s : List ℕ) (at : ℕ) {from c name : ℕ} → from ≡ 0 → c ≡ from + at → name ≡ c + length (field s c) → name ≡ at + length (field s at)
+name-end s at {c = c} p q r =
+    let e : c ≡ at = omega arith in
+    rw e at r
+
 -- a length is at most 60,000, and its line ends within the container
-pub length-in : (s : List ℕ) (at : ℕ) {n start : ℕ} → found n start ≡ caseLength s at → (n ≤ 60000) × (at ≤ start) × (start ≤ length s)
-unfolding caseLength
+pub length-in : (s : List ℕ) (at : ℕ) {n start : ℕ} → found n start ≡ naturalThen 5 60000 10 s at → (n ≤ 60000) × (at ≤ start) × (start ≤ length s)
+unfolding naturalThen
 length-in s at {n} {start} = go (nextNatural 5 60000 s at) refl
   where
     goal : Type 0
@@ -40,7 +46,7 @@ length-in s at {n} {start} = go (nextNatural 5 60000 s at) refl
 pub case-in : (s : List ℕ) (at : ℕ) {name start end : ℕ} → At name start end ≡ caseAt s at
     → (at ≤ name) × (name ≤ start) × (start ≤ end) × (end < length s) × (end ≤ start + 60000)
 unfolding caseAt
-case-in s at {name} {start} {end} = go (caseLength s from) refl
+case-in s at {name} {start} {end} = go (naturalThen 5 60000 10 s from) refl
   where
     from : ℕ
     from = at + length (field s at)
@@ -48,7 +54,7 @@ case-in s at {name} {start} {end} = go (caseLength s from) refl
     goal : Type 0
     goal = (at ≤ name) × (name ≤ start) × (start ≤ end) × (end < length s) × (end ≤ start + 60000)
 
-    ended : (n l : ℕ) → found n l ≡ caseLength s from → (t : Bool) → eqb (byteAt s (l + n)) 10 ≡ t → At name start end ≡ pick t (At from l (l + n)) Nothing → goal
+    ended : (n l : ℕ) → found n l ≡ naturalThen 5 60000 10 s from → (t : Bool) → eqb (byteAt s (l + n)) 10 ≡ t → At name start end ≡ pick t (At from l (l + n)) Nothing → goal
     ended n l h true q e =
         let i : name ≡ from = (cc) in
         let j : start ≡ l = (cc) in
@@ -56,7 +62,7 @@ case-in s at {name} {start} {end} = go (caseLength s from) refl
         omega (arith, length-in s from h, there 10 s (l + n) (lit< tt) (eqb-true (byteAt s (l + n)) 10 q))
     ended n l h false q e = let z : _≡_ {A = ℕ} 0 1 = (cc) in absurd (omega arith)
 
-    go : (a : Reading ℕ) → a ≡ caseLength s from → At name start end ≡ caseOf s from a → goal
+    go : (a : Reading ℕ) → a ≡ naturalThen 5 60000 10 s from → At name start end ≡ caseOf s from a → goal
     go (found n l) h e = ended n l h (eqb (byteAt s (l + n)) 10) refl e
     go (fault k p) h e = let z : _≡_ {A = ℕ} 0 1 = (cc) in absurd (omega arith)
 

@@ -4,26 +4,19 @@ use mathlib.Core.List.{List}
 use lib.ListN.{length}
 use lib.Dec.{eqb}
 use Rattle.faults.specs.Answer.{pick}
-use Rattle.fields.specs.Reading.{Reading, found, fault, Reader, _>>=_, _>>_, pure}
-use Rattle.fields.specs.Fields.{byteAt, byte, field, nextNatural}
+use Rattle.fields.specs.Reading.{Reading, found, fault}
+use Rattle.fields.specs.Fields.{byteAt, field, naturalThen}
 use Rattle.files.specs.declared.container.Case.{Case}
 use Rattle.files.specs.declared.container.Case.the-variants.{At, Nothing}
-
--- what follows the name: a space, a natural to 60,000, and the line end
-unfoldable pub caseLength : Reader ℕ
-caseLength = do
-  n ← nextNatural 5 60000
-  byte 10
-  pure n
 
 -- a length and the place after its line: so many bytes, and a line end
 abbrev pub caseOf : List ℕ → (name : ℕ) → Reading ℕ → Case
 caseOf s name (found n start) = pick (eqb (byteAt s (start + n)) 10) (At name start (start + n)) Nothing
 caseOf s name (fault k p) = Nothing
 
--- the case at a place, whose name runs to the next space or line end
+-- the case at a place: a name to the next space or line end, a space, a natural to 60,000, and the line end
 unfoldable pub caseAt : List ℕ → (at : ℕ) → Case
-caseAt s at = let name = at + length (field s at) in caseOf s name (caseLength s name)
+caseAt s at = let name = at + length (field s at) in caseOf s name (naturalThen 5 60000 10 s name)
 
 -- where the next case begins: behind the line end of this one; where there is none, at the end
 abbrev pub nextAt : List ℕ → Case → ℕ

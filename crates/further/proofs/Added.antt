@@ -13,7 +13,7 @@ use Rattle.terms.specs.Says.{partOf, heads, headed}
 use Rattle.terms.specs.Terms.{statesIn, taken, external}
 use Rattle.stable.specs.Meaning.{Atoms, Says, broken}
 use Rattle.judge.specs.Plan.{Ready, holds}
-use Rattle.judge.specs.Later.{atoms, Unused, Added, a-number, a-string, a-compound, an-element, an-atom, a-fact, Grown, none, keep, add, Later}
+use Rattle.further.specs.Later.{atoms, Unused, Added, a-number, a-string, a-compound, an-element, an-atom, a-fact, Grown, none, keep, add, Later}
 use Rattle.judge.proofs.Ascent.{of-member}
 use Rattle.further.proofs.Lists.{not-true, not-both}
 use Rattle.further.proofs.Agree.{Agree}

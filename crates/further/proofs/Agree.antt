@@ -9,7 +9,7 @@ use Rattle.faults.proofs.Bools.{or-left, or-right, and-cases}
 use Rattle.faults.proofs.Marks.{first-in, among-append}
 use Rattle.aspif.specs.Statements.{Literal, positive, negated, Head, empty, single, choice, Statement, rule, output, numeric, string, compound, element, theory, guarded, comment}
 use Rattle.stable.specs.Meaning.{Atoms, bodyTrue, brokenRule, broken, kept, positives, reductHead}
-use Rattle.judge.specs.Later.{inHead, inLiterals, atoms}
+use Rattle.further.specs.Later.{inHead, inLiterals, atoms}
 use Rattle.further.proofs.Lists.{rest-in}
 
 -- X and Y have the same atoms of a list

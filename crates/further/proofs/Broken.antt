@@ -9,7 +9,7 @@ use Rattle.faults.specs.Answer.{pick}
 use Rattle.aspif.specs.Statements.{Statement, Line}
 use Rattle.stable.specs.Meaning.{Atoms, Says, broken, Broken, unbroken, brokenAt, firstBroken}
 use Rattle.judge.specs.Plan.{Ready, holds}
-use Rattle.judge.specs.Later.{atoms, Added, Grown, none, keep, add, Moved, Later}
+use Rattle.further.specs.Later.{atoms, Added, Grown, none, keep, add, Moved, Later}
 use Rattle.further.proofs.Agree.{Agree, broken-same}
 use Rattle.further.proofs.Added.{added-unbroken, lines-agree, new-holds}
 

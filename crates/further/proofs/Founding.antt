@@ -11,7 +11,7 @@ use Rattle.aspif.specs.Statements.{Literal, Head, single, Statement, rule}
 use Rattle.terms.specs.Terms.{external}
 use Rattle.stable.specs.Meaning.{Atoms, Says, Closed, Unfounded, Founded, SmallestUnfounded}
 use Rattle.judge.specs.Plan.{Ready, holds}
-use Rattle.judge.specs.Later.{atoms, Added, a-fact, Later}
+use Rattle.further.specs.Later.{atoms, Added, a-fact, Later}
 use Rattle.judge.proofs.Ascent.{of-member}
 use Rattle.further.proofs.Agree.{Agree, Model, model-same}
 use Rattle.further.proofs.Added.{says-on, says-back, old-apart, line-apart, candidate-same, lines-agree, old-holds, external-same}

@@ -10,8 +10,8 @@ use Rattle.faults.proofs.Bools.{and-cases}
 use Rattle.faults.proofs.Marks.{among-append}
 use Rattle.aspif.specs.Statements.{Statement, Line}
 use Rattle.terms.specs.Terms.{taken}
-use Rattle.judge.specs.Plan.{Ready}
-use Rattle.judge.specs.Later.{atoms, terms, elements, Unused, Added, a-number, a-compound, an-element, an-atom, a-fact, Grown, none, keep, add, Later}
+use Rattle.judge.specs.Plan.{Ready, ready}
+use Rattle.further.specs.Later.{atoms, terms, elements, Unused, Added, a-number, a-compound, an-element, an-atom, a-fact, Grown, none, keep, add, Later}
 use Rattle.judge.proofs.Texts.{linesP}
 use Rattle.further.proofs.Texts.{linesWith}
 
@@ -36,11 +36,11 @@ unused-so kind (l ∷ ls) n e =
 
 -- P, or Q, with a candidate
 abbrev pub old : (eight c : ℕ) → List ℕ → Ready
-old eight c cs = record { lines = linesP 40 eight 117 c; atoms = cs }
+old eight c cs = ready (linesP 40 eight 117 c) cs
 
 -- with the further rule
 abbrev pub new : (eight c w n : ℕ) → List ℕ → Ready
-new eight c w n cs = record { lines = linesWith eight c w n; atoms = cs }
+new eight c w n cs = ready (linesWith eight c w n) cs
 
 module _ (eight c c′ w n : ℕ) where
   with-lines : Grown (Added (linesP 40 eight 117 c) (4 ∷ [])) (linesP 40 eight 117 c) (linesWith eight c′ w n)

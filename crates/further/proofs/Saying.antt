@@ -14,7 +14,7 @@ use Rattle.diffs.specs.Diff.{Diff}
 use Rattle.terms.specs.Says.{comp, elem, partOf, found, nothing, termIn, term, elementIn, elementAt, Bound, plain, negated, Difference, Says as SaysDifference, Name}
 use Rattle.stable.specs.Meaning.{Says}
 use Rattle.judge.specs.Plan.{Ready, holds, Held, InForce}
-use Rattle.judge.specs.Later.{functor, terms, elements, Unused, Added, a-number, a-string, a-compound, an-element, an-atom, a-fact, Grown, none, keep, add, Later}
+use Rattle.further.specs.Later.{functor, terms, elements, Unused, Added, a-number, a-string, a-compound, an-element, an-atom, a-fact, Grown, none, keep, add, Later}
 use Rattle.further.proofs.Lists.{not-true, not-both, rest-in}
 use Rattle.further.proofs.Added.{says-on, says-back, unused-in, old-holds, candidate-same}
 use Rattle.further.proofs.Lines.{compound-said, element-said, says-stating, stating-says}

@@ -6,7 +6,7 @@ use mathlib.Core.List.{List, [], _∷_, _++_}
 use lib.Dec.{lit≤}
 use lib.IntN.{pos}
 use Rattle.faults.specs.Answer.{got}
-use Rattle.fields.specs.Fields.{byteAt, byte, bytes, upTo, field, allDigits, isNatural, value, natural, nextNatural, negative, integer, nextInteger, literal, atom, nextAtom, nextTerm, nextElement, char, item, items, counted, stringLength, string}
+use Rattle.fields.specs.Fields.{byteAt, byte, bytes, lineEnd, textEnd, upTo, field, allDigits, isNatural, value, natural, nextNatural, negative, integer, nextInteger, literal, atom, nextAtom, nextTerm, nextElement, char, item, items, counted, naturalThen, string}
 use Rattle.aspif.specs.Statements.{positive, single, choice, Statement, rule, numeric, compound, element, guarded, Line}
 use Rattle.aspif.specs.Grammar.{lineOf, heads, bodyKind, literals, body, ruleLine, numericLine, stringLine, compoundLine, elementLine, front, guardedLine, theoryType, theoryOf, theoryPart, statementOf, lastLine, lines, noTag, firstLine, plan, statements}
 use Rattle.aspif.specs.Candidate.{atomAbove, ending, ascending, atoms, candidate}
@@ -79,7 +79,7 @@ pub record Texts : Type 0 where
 
 -- each is computed from its bytes
 pub texts : Texts
-unfolding textP3 textP7 textP45 textQ3 byteAt byte bytes upTo field allDigits isNatural value natural nextNatural negative integer nextInteger literal atom nextAtom nextTerm nextElement char item items counted stringLength string lineOf heads bodyKind literals body ruleLine numericLine stringLine compoundLine elementLine front guardedLine theoryType theoryOf theoryPart statementOf lastLine lines noTag firstLine plan statements
+unfolding textP3 textP7 textP45 textQ3 byteAt byte bytes lineEnd textEnd upTo field allDigits isNatural value natural nextNatural negative integer nextInteger literal atom nextAtom nextTerm nextElement char item items counted naturalThen string lineOf heads bodyKind literals body ruleLine numericLine stringLine compoundLine elementLine front guardedLine theoryType theoryOf theoryPart statementOf lastLine lines noTag firstLine plan statements
 texts = record {
   p3 = record { short = lit≤ tt; lines = refl; stated = differences-with 5 179 3 242 };
   p7 = record { short = lit≤ tt; lines = refl; stated = differences-with 5 179 7 242 };
@@ -95,5 +95,5 @@ pub record Candidates : Type 0 where
 
 -- each is computed
 pub candidates : Candidates
-unfolding candidate atoms ascending ending lastLine atomAbove natural field upTo isNatural allDigits value byteAt byte
+unfolding candidate atoms ascending ending lastLine lineEnd textEnd atomAbove natural field upTo isNatural allDigits value byteAt byte
 candidates = record { one-two-three-four = refl; one-three-four = refl; two-three-four = refl }

@@ -17,8 +17,8 @@ use Rattle.stable.proofs.Stability.{stable-answers}
 use Rattle.judge.specs.Plan.{Rooms, Ready, holds, InForce}
 use Rattle.judge.specs.Judged.{refusal, Result, refusing, showing}
 use Rattle.judge.specs.Demand2.{StableModel, Timeable, Accepted, ShowsCycle, Otherwise, Demanded}
-use Rattle.judge.specs.Later.{Later}
-use Rattle.judge.specs.Demand3.{timeIn, Further, Demand3}
+use Rattle.further.specs.Later.{Later}
+use Rattle.further.specs.Demand3.{timeIn, Further, Demand3}
 use Rattle.judge.proofs.Judgements.{numbers, places, not-accepted}
 use Rattle.judge.proofs.Demand2.{demand-2}
 use Rattle.further.proofs.Broken.{still-whole, still-broken}
@@ -121,5 +121,5 @@ module _ (q q′ : Ready) (new : List ℕ) (l : Later q q′ new) (b b′ : Room
 
 -- demand 3, of every readable plan and every readable plan with time rules added to it
 pub demand-3 : Demand3
-demand-3 text cand text′ cand′ b b′ q q′ new e e′ l r r′ j j′ =
-    claims q q′ new l b b′ r r′ (demand-2 text cand b q r e j) (demand-2 text′ cand′ b′ q′ r′ e′ j′)
+demand-3 a a′ b b′ q q′ new e e′ l r r′ j j′ =
+    claims q q′ new l b b′ r r′ (demand-2 a b q r e j) (demand-2 a′ b′ q′ r′ e′ j′)

@@ -21,13 +21,13 @@ use Rattle.terms.specs.Says.{Some, Says as SaysDifference, Name}
 use Rattle.terms.specs.Terms.{Stated, differences}
 use Rattle.terms.proofs.Stating.{says-listed, listed-says}
 use Rattle.stable.specs.Meaning.{firstBroken}
-use Rattle.judge.specs.Plan.{Rooms, readable, InForce}
+use Rattle.judge.specs.Plan.{Asked, Rooms, asked, ready, readable, InForce}
 use Rattle.judge.specs.Judged.{Result, refusing, showing, NegativeCycle, Judged}
 use Rattle.judge.specs.Texts.{bytesOf, planP, planQ}
 use Rattle.judge.specs.Demand2.{Accepted, BrokenAt, ShowsCycle}
 use Rattle.judge.specs.Starred.{Accepts}
-use Rattle.judge.specs.Later.{Moved}
-use Rattle.judge.specs.Demand3.{timeIn, Further}
+use Rattle.further.specs.Later.{Moved}
+use Rattle.further.specs.Demand3.{timeIn, Further}
 use Rattle.judge.proofs.Unique.{no-times}
 use Rattle.judge.proofs.Readable.{readable-got}
 use Rattle.judge.proofs.Demand2.{demand-2}
@@ -46,9 +46,9 @@ pub record Long (b : Rooms) : Type 0 where
   pub cycle : 1024 ≤ length (b .cycle)
 
 -- a text and a candidate that were computed are readable
-reads : (text cand : List ℕ) {ls : List Line} {ds : List Stated} {cs : List ℕ} → Says text ls ds → candidate cand ≡ got cs
-    → (b : Rooms) → Long b → readable text cand b ≡ got (record { lines = ls; atoms = cs })
-reads text cand s c b h = readable-got text cand b (h .room) (h .cycle) (s .short) (s .lines) (s .stated) c
+reads : (a : Asked) {ls : List Line} {ds : List Stated} {cs : List ℕ} → Says (a .text) ls ds → candidate (a .cand) ≡ got cs
+    → (b : Rooms) → Long b → readable a b ≡ got (ready ls cs)
+reads a s c b h = readable-got a b (h .room) (h .cycle) (s .short) (s .lines) (s .stated) c
 
 abbrev all : List ℕ
 all = 1 ∷ 2 ∷ 3 ∷ []
@@ -114,7 +114,7 @@ module _ (w n : ℕ) (said : differences (linesWith 5 179 w n) ≡ got (statedWi
       record { holds = refl; says = listed-says (linesWith 5 179 w n) (statedWith 5 w) said 2 (two 40) (inl refl) },
       (record { holds = refl; says = listed-says (linesWith 5 179 w n) (statedWith 5 w) said 4 (three w) (inr (inr (inl refl))) }, tt),
     );
-    cycle = record { start = 4; closed = (refl, (refl, refl)); different = ((λ i. let z : ⊥ = omega arith in z, tt), (tt, tt)) };
+    cycle = record { some = omega arith; start = 4; closed = (refl, (refl, refl)); different = ((λ i. let z : ⊥ = omega arith in z, tt), (tt, tt)) };
     below = rw e (ltZ-yes tt);
     least = (lit≤ tt, tt);
   }
@@ -123,7 +123,7 @@ module _ (w n : ℕ) (said : differences (linesWith 5 179 w n) ≡ got (statedWi
 
 module _ (b b′ : Rooms) (long : Long b) (long′ : Long b′) (r r′ : Result) where
   -- P with `1 2 3`, which is accepted, and the further rule with `1 2 3 4`
-  module _ (j : Judged planP (bytesOf "1 2 3\n") b r) where
+  module _ (j : Judged (asked planP (bytesOf "1 2 3\n")) b r) where
     accepts : Accepts 44 0 5 all b r
     accepts = starred .p-1-2-3 b r (long .room) (long .cycle) j
 
@@ -139,14 +139,14 @@ module _ (b b′ : Rooms) (long : Long b) (long′ : Long b′) (r r′ : Result
         (two-names (old 5 167 all) 40 5 (old-texts .p .stated) .all n m)
 
     -- send - recv ≤ -3 ..
-    pub further-3 : Judged textP3 (bytesOf "1 2 3 4\n") b′ r′ → Further (old 5 167 all) (new 5 179 3 242 more) (4 ∷ []) (later 5 167 179 3 242 all refl) b′ r r′
+    pub further-3 : Judged (asked textP3 (bytesOf "1 2 3 4\n")) b′ r′ → Further (old 5 167 all) (new 5 179 3 242 more) (4 ∷ []) (later 5 167 179 3 242 all refl) b′ r r′
     further-3 =
-        demand-3 planP (bytesOf "1 2 3\n") textP3 (bytesOf "1 2 3 4\n") b b′ (old 5 167 all) (new 5 179 3 242 more) (4 ∷ [])
-        (reads planP (bytesOf "1 2 3\n") (old-texts .p) (old-candidates .one-two-three) b long)
-        (reads textP3 (bytesOf "1 2 3 4\n") (texts .p3) (candidates .one-two-three-four) b′ long′) (later 5 167 179 3 242 all refl) r r′ j
+        demand-3 (asked planP (bytesOf "1 2 3\n")) (asked textP3 (bytesOf "1 2 3 4\n")) b b′ (old 5 167 all) (new 5 179 3 242 more) (4 ∷ [])
+        (reads (asked planP (bytesOf "1 2 3\n")) (old-texts .p) (old-candidates .one-two-three) b long)
+        (reads (asked textP3 (bytesOf "1 2 3 4\n")) (texts .p3) (candidates .one-two-three-four) b′ long′) (later 5 167 179 3 242 all refl) r r′ j
 
     -- .. is accepted, and nothing moves: send 0, recv 5
-    pub still-3 : Judged textP3 (bytesOf "1 2 3 4\n") b′ r′ → (a′ : Accepted r′) × (timeIn r′ a′ 3 ≡ got 0) × (timeIn r′ a′ 4 ≡ got 5)
+    pub still-3 : Judged (asked textP3 (bytesOf "1 2 3 4\n")) b′ r′ → (a′ : Accepted r′) × (timeIn r′ a′ 3 ≡ got 0) × (timeIn r′ a′ 4 ≡ got 5)
     still-3 j′ =
         let s = further-3 j′ .still accepted-P (times 5) times-P (record {
           names = λ a d i x. old-names 3 242 (texts .p3 .stated) a d x;
@@ -155,31 +155,31 @@ module _ (b b′ : Rooms) (long : Long b) (long′ : Long b′) (r r′ : Result
         (s .0, s .1 3 (send-recv .0), s .1 4 (send-recv .1))
 
     -- send - recv ≤ -7 ..
-    pub further-7 : Judged textP7 (bytesOf "1 2 3 4\n") b′ r′ → Further (old 5 167 all) (new 5 179 7 242 more) (4 ∷ []) (later 5 167 179 7 242 all refl) b′ r r′
+    pub further-7 : Judged (asked textP7 (bytesOf "1 2 3 4\n")) b′ r′ → Further (old 5 167 all) (new 5 179 7 242 more) (4 ∷ []) (later 5 167 179 7 242 all refl) b′ r r′
     further-7 =
-        demand-3 planP (bytesOf "1 2 3\n") textP7 (bytesOf "1 2 3 4\n") b b′ (old 5 167 all) (new 5 179 7 242 more) (4 ∷ [])
-        (reads planP (bytesOf "1 2 3\n") (old-texts .p) (old-candidates .one-two-three) b long)
-        (reads textP7 (bytesOf "1 2 3 4\n") (texts .p7) (candidates .one-two-three-four) b′ long′) (later 5 167 179 7 242 all refl) r r′ j
+        demand-3 (asked planP (bytesOf "1 2 3\n")) (asked textP7 (bytesOf "1 2 3 4\n")) b b′ (old 5 167 all) (new 5 179 7 242 more) (4 ∷ [])
+        (reads (asked planP (bytesOf "1 2 3\n")) (old-texts .p) (old-candidates .one-two-three) b long)
+        (reads (asked textP7 (bytesOf "1 2 3 4\n")) (texts .p7) (candidates .one-two-three-four) b′ long′) (later 5 167 179 7 242 all refl) r r′ j
 
     -- .. is accepted, and recv moves from 5 to 7
-    pub moved-7 : Judged textP7 (bytesOf "1 2 3 4\n") b′ r′ → (a′ : Accepted r′) × (timeIn r accepted-P 4 ≡ got 5) × (timeIn r′ a′ 4 ≡ got 7)
+    pub moved-7 : Judged (asked textP7 (bytesOf "1 2 3 4\n")) b′ r′ → (a′ : Accepted r′) × (timeIn r accepted-P 4 ≡ got 5) × (timeIn r′ a′ 4 ≡ got 7)
     moved-7 j′ =
         let e = earliest-with 7 242 (texts .p7 .stated) (lit≤ tt) (lit≤ tt) in
         let a′ = further-7 j′ .accepted accepted-P .1 (record { times = whole (times 7); keep = e .keeps }) in
-        let t = demand-2 textP7 (bytesOf "1 2 3 4\n") b′ (new 5 179 7 242 more) r′ (reads textP7 (bytesOf "1 2 3 4\n") (texts .p7) (candidates .one-two-three-four) b′ long′) j′
+        let t = demand-2 (asked textP7 (bytesOf "1 2 3 4\n")) b′ (new 5 179 7 242 more) r′ (reads (asked textP7 (bytesOf "1 2 3 4\n")) (texts .p7) (candidates .one-two-three-four) b′ long′) j′
         .timetable (a′ .length) (a′ .is) in
         let n = still-name (old 5 167 all) (new 5 179 7 242 more) (4 ∷ []) (later 5 167 179 7 242 all refl) 4 (send-recv .1) in
         (a′, times-P 4 (send-recv .1), t .reads 4 n ∙ ap got (earliest-unique (InForce (new 5 179 7 242 more)) (t .times) (times 7) (t .earliest) e 4))
 
     -- send - recv ≤ -45 ..
-    pub further-45 : Judged textP45 (bytesOf "1 2 3 4\n") b′ r′ → Further (old 5 167 all) (new 5 179 45 243 more) (4 ∷ []) (later 5 167 179 45 243 all refl) b′ r r′
+    pub further-45 : Judged (asked textP45 (bytesOf "1 2 3 4\n")) b′ r′ → Further (old 5 167 all) (new 5 179 45 243 more) (4 ∷ []) (later 5 167 179 45 243 all refl) b′ r r′
     further-45 =
-        demand-3 planP (bytesOf "1 2 3\n") textP45 (bytesOf "1 2 3 4\n") b b′ (old 5 167 all) (new 5 179 45 243 more) (4 ∷ [])
-        (reads planP (bytesOf "1 2 3\n") (old-texts .p) (old-candidates .one-two-three) b long)
-        (reads textP45 (bytesOf "1 2 3 4\n") (texts .p45) (candidates .one-two-three-four) b′ long′) (later 5 167 179 45 243 all refl) r r′ j
+        demand-3 (asked planP (bytesOf "1 2 3\n")) (asked textP45 (bytesOf "1 2 3 4\n")) b b′ (old 5 167 all) (new 5 179 45 243 more) (4 ∷ [])
+        (reads (asked planP (bytesOf "1 2 3\n")) (old-texts .p) (old-candidates .one-two-three) b long)
+        (reads (asked textP45 (bytesOf "1 2 3 4\n")) (texts .p45) (candidates .one-two-three-four) b′ long′) (later 5 167 179 45 243 all refl) r r′ j
 
     -- .. is not accepted: no whole-number times keep the rules that hold
-    pub refused-45 : Judged textP45 (bytesOf "1 2 3 4\n") b′ r′ → Accepted r′ → ⊥
+    pub refused-45 : Judged (asked textP45 (bytesOf "1 2 3 4\n")) b′ r′ → Accepted r′ → ⊥
     refused-45 j′ a′ =
         let p = further-45 j′ .accepted accepted-P .0 a′ in
         no-times (new 5 179 45 243 more) (2 ∷ 4 ∷ []) (cycle-with 45 243 (texts .p45 .stated) refl) (p .times) (p .keep)
@@ -189,33 +189,33 @@ module _ (b b′ : Rooms) (long : Long b) (long′ : Long b′) (r r′ : Result
   broken-with = refl
 
   -- P with `1 3` breaks the rule at 22, which stands at 34 in the new text: with the further rule and `1 3 4` it is broken there
-  pub broken-3 : Judged planP (bytesOf "1 3\n") b r → Judged textP3 (bytesOf "1 3 4\n") b′ r′
+  pub broken-3 : Judged (asked planP (bytesOf "1 3\n")) b r → Judged (asked textP3 (bytesOf "1 3 4\n")) b′ r′
       → (r ≡ refusing b 8 22) × ((p′ : ℕ) × Moved (later 5 167 179 3 242 (1 ∷ 3 ∷ []) refl .lines) 22 p′ × (r′ ≡ refusing b′ 8 p′)) × (r′ ≡ refusing b′ 8 34)
   broken-3 j j′ =
       let v = starred .p-1-3 b r (long .room) (long .cycle) j in
-      let e′ = reads textP3 (bytesOf "1 3 4\n") (texts .p3) (candidates .one-three-four) b′ long′ in
-      let f = demand-3 planP (bytesOf "1 3\n") textP3 (bytesOf "1 3 4\n") b b′ (old 5 167 (1 ∷ 3 ∷ [])) (new 5 179 3 242 (1 ∷ 3 ∷ 4 ∷ [])) (4 ∷ [])
-      (reads planP (bytesOf "1 3\n") (old-texts .p) (old-candidates .one-three) b long) e′ (later 5 167 179 3 242 (1 ∷ 3 ∷ []) refl) r r′ j j′ in (
+      let e′ = reads (asked textP3 (bytesOf "1 3 4\n")) (texts .p3) (candidates .one-three-four) b′ long′ in
+      let f = demand-3 (asked planP (bytesOf "1 3\n")) (asked textP3 (bytesOf "1 3 4\n")) b b′ (old 5 167 (1 ∷ 3 ∷ [])) (new 5 179 3 242 (1 ∷ 3 ∷ 4 ∷ [])) (4 ∷ [])
+      (reads (asked planP (bytesOf "1 3\n")) (old-texts .p) (old-candidates .one-three) b long) e′ (later 5 167 179 3 242 (1 ∷ 3 ∷ []) refl) r r′ j j′ in (
         v,
         f .broken 22 (ap (λ (s : Result). s .verdict) v),
-        demand-2 textP3 (bytesOf "1 3 4\n") b′ (new 5 179 3 242 (1 ∷ 3 ∷ 4 ∷ [])) r′ e′ j′ .first-broken 34 .1 broken-with,
+        demand-2 (asked textP3 (bytesOf "1 3 4\n")) b′ (new 5 179 3 242 (1 ∷ 3 ∷ 4 ∷ [])) r′ e′ j′ .first-broken 34 .1 broken-with,
       )
 
   -- P with `2 3` has the unfounded atom 2; with the further rule and `2 3 4` it has so again
-  pub unfounded-3 : Judged planP (bytesOf "2 3\n") b r → Judged textP3 (bytesOf "2 3 4\n") b′ r′ → (r ≡ refusing b 9 2) × (r′ ≡ refusing b′ 9 2)
+  pub unfounded-3 : Judged (asked planP (bytesOf "2 3\n")) b r → Judged (asked textP3 (bytesOf "2 3 4\n")) b′ r′ → (r ≡ refusing b 9 2) × (r′ ≡ refusing b′ 9 2)
   unfounded-3 j j′ =
       let v = starred .p-2-3 b r (long .room) (long .cycle) j in
-      let f = demand-3 planP (bytesOf "2 3\n") textP3 (bytesOf "2 3 4\n") b b′ (old 5 167 (2 ∷ 3 ∷ [])) (new 5 179 3 242 (2 ∷ 3 ∷ 4 ∷ [])) (4 ∷ [])
-      (reads planP (bytesOf "2 3\n") (old-texts .p) (old-candidates .two-three) b long)
-      (reads textP3 (bytesOf "2 3 4\n") (texts .p3) (candidates .two-three-four) b′ long′) (later 5 167 179 3 242 (2 ∷ 3 ∷ []) refl) r r′ j j′ in
+      let f = demand-3 (asked planP (bytesOf "2 3\n")) (asked textP3 (bytesOf "2 3 4\n")) b b′ (old 5 167 (2 ∷ 3 ∷ [])) (new 5 179 3 242 (2 ∷ 3 ∷ 4 ∷ [])) (4 ∷ [])
+      (reads (asked planP (bytesOf "2 3\n")) (old-texts .p) (old-candidates .two-three) b long)
+      (reads (asked textP3 (bytesOf "2 3 4\n")) (texts .p3) (candidates .two-three-four) b′ long′) (later 5 167 179 3 242 (2 ∷ 3 ∷ []) refl) r r′ j j′ in
       (v, f .unfounded 2 (ap (λ (s : Result). s .verdict) v))
 
   -- Q with `1 2 3` has a negative cycle; with the further rule and `1 2 3 4` it has one again
-  pub cyclic-3 : Judged planQ (bytesOf "1 2 3\n") b r → Judged textQ3 (bytesOf "1 2 3 4\n") b′ r′
+  pub cyclic-3 : Judged (asked planQ (bytesOf "1 2 3\n")) b r → Judged (asked textQ3 (bytesOf "1 2 3 4\n")) b′ r′
       → (r ≡ showing b (2 ∷ 3 ∷ [])) × ShowsCycle (new 45 180 3 243 more) b′ r′
   cyclic-3 j j′ =
       let v = starred .q-1-2-3 b r (long .room) (long .cycle) j .list in
-      let f = demand-3 planQ (bytesOf "1 2 3\n") textQ3 (bytesOf "1 2 3 4\n") b b′ (old 45 168 all) (new 45 180 3 243 more) (4 ∷ [])
-      (reads planQ (bytesOf "1 2 3\n") (old-texts .q) (old-candidates .one-two-three) b long)
-      (reads textQ3 (bytesOf "1 2 3 4\n") (texts .q3) (candidates .one-two-three-four) b′ long′) (later 45 168 180 3 243 all refl) r r′ j j′ in
+      let f = demand-3 (asked planQ (bytesOf "1 2 3\n")) (asked textQ3 (bytesOf "1 2 3 4\n")) b b′ (old 45 168 all) (new 45 180 3 243 more) (4 ∷ [])
+      (reads (asked planQ (bytesOf "1 2 3\n")) (old-texts .q) (old-candidates .one-two-three) b long)
+      (reads (asked textQ3 (bytesOf "1 2 3 4\n")) (texts .q3) (candidates .one-two-three-four) b′ long′) (later 45 168 180 3 243 all refl) r r′ j j′ in
       (v, f .cyclic 2 (ap (λ (s : Result). s .verdict) v))

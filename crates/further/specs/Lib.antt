@@ -1,1 +1,3 @@
--- No definitions: the statement is the judge's, `Demand3`.
+-- Demand 3: the relation between an old plan and a new one, and the statement.
+pub mod Later
+pub mod Demand3

@@ -7,19 +7,19 @@ use native.Mathlib.Omega.{arith}
 use lib.ListN.{length, drop}
 use lib.Seq.{drop-append-seam}
 use Rattle.faults.specs.Answer.{Answer, got, refused}
-use Rattle.judge.specs.Plan.{Rooms}
+use Rattle.judge.specs.Plan.{Asked, Rooms}
 use Rattle.judge.specs.Judged.{acceptance, refusal, Result, refusing, accepting, cyclic, timed, unfounded, founded, broken, whole as sound, unreadable, ready, table}
 use Rattle.judge.specs.Demand1.{Left, Demand1}
 
-module _ (text cand : List ℕ) (b : Rooms) where
-  of-refusal : (k p : ℕ) → Left text cand b (refusing b k p)
+module _ (a : Asked) (b : Rooms) where
+  of-refusal : (k p : ℕ) → Left a b (refusing b k p)
   of-refusal k p = record {
     refused = λ i m e. refl;
     cycle = inl refl;
     accepted = λ n e. refl;
   }
 
-  of-answer : (a : Answer (List ℕ)) → Left text cand b (accepting b a)
+  of-answer : (t : Answer (List ℕ)) → Left a b (accepting b t)
   of-answer (got bytes) = record {
     refused = λ k p e. let z : _≡_ {A = ℕ} 0 1 = (cc) in absurd (omega arith);
     cycle = inl refl;
@@ -29,12 +29,12 @@ module _ (text cand : List ℕ) (b : Rooms) where
 
 -- demand 1
 pub demand-1 : Demand1
-demand-1 text cand b r (unreadable k p e f) = rw f (of-refusal text cand b k p)
-demand-1 text cand b r (ready q e (broken p f g)) = rw g (of-refusal text cand b 8 p)
-demand-1 text cand b r (ready q e (sound f (unfounded a g h))) = rw h (of-refusal text cand b 9 a)
-demand-1 text cand b r (ready q e (sound f (founded g (cyclic cs h i)))) = record {
+demand-1 a b r (unreadable k p e f) = rw f (of-refusal a b k p)
+demand-1 a b r (ready q e (broken p f g)) = rw g (of-refusal a b 8 p)
+demand-1 a b r (ready q e (sound f (unfounded c g h))) = rw h (of-refusal a b 9 c)
+demand-1 a b r (ready q e (sound f (founded g (cyclic cs h i)))) = record {
   refused = λ k p v. ap (λ (s : Result). s .rooms .room) i;
   cycle = inr (q, e, record { list = cs; negative = h; is = i });
   accepted = λ n v. let w : acceptance n ≡ refusal 10 (length cs) = sym v ∙ ap (λ (s : Result). s .verdict) i in let z : _≡_ {A = ℕ} 0 1 = (cc) in absurd (omega arith);
 }
-demand-1 text cand b r (ready q e (sound f (founded g (timed u h ns i j)))) = rw j (of-answer text cand b (table ns u (q .atoms)))
+demand-1 a b r (ready q e (sound f (founded g (timed u h ns i j)))) = rw j (of-answer a b (table ns u (q .atoms)))

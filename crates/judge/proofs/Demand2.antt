@@ -14,7 +14,7 @@ use Rattle.terms.specs.Terms.{external}
 use Rattle.stable.proofs.Stability.{stable-answers}
 use Rattle.timetable.specs.Table.{tableOf}
 use Rattle.timetable.specs.Times.{timeOf}
-use Rattle.judge.specs.Plan.{Rooms, Ready, holds, readable, InForce}
+use Rattle.judge.specs.Plan.{Asked, Rooms, Ready, holds, readable, InForce}
 use Rattle.judge.specs.Judged.{acceptance, Result, refusing, accepting, cyclic, timed, unfounded, founded, Weighed, broken, whole as sound, Judges, unreadable, ready}
 use Rattle.judge.specs.Demand2.{StableModel, Timeable, NoneBroken, BrokenAt, NoneUnfounded, UnfoundedAt, Accepted, Timetable, ShowsCycle, Otherwise, Demand2}
 use Rattle.judge.proofs.Ascent.{of-member}
@@ -44,16 +44,16 @@ pub weighed : {a : Answer Ready} {b : Rooms} {q : Ready} {r : Result} → a ≡ 
 weighed e (unreadable k p f g) = let z : _≡_ {A = ℕ} 0 1 = (cc) in absurd (omega arith)
 weighed {b = b} {q} {r} e (ready v f g) = let i : v ≡ q = (cc) in subst (λ (u : Ready). Weighed u b r) i g
 
-module _ (text cand : List ℕ) (b : Rooms) (q : Ready) (r : Result) (e : readable text cand b ≡ got q) where
+module _ (a : Asked) (b : Rooms) (q : Ready) (r : Result) (e : readable a b ≡ got q) where
   ended : Weighed q b r → Ending q b r
   ended (broken p f g) = at-eight p f g
-  ended (sound f (unfounded a g h)) = at-nine f a g h
+  ended (sound f (unfounded c g h)) = at-nine f c g h
   ended (sound f (founded g (cyclic cs n h))) = at-ten f g (record { list = cs; negative = n; is = h })
   ended (sound f (founded g (timed u h ns i j))) =
-      at-end f g (record { times = u; earliest = h; names = ns; all = i; is = j ∙ ap (accepting b) (table-got text cand b q e u h ns i) })
+      at-end f g (record { times = u; earliest = h; names = ns; all = i; is = j ∙ ap (accepting b) (table-got a b q e u h ns i) })
 
   -- a readable plan ends in one of the four ways
-  pub ending : Judges (readable text cand b) b r → Ending q b r
+  pub ending : Judges (readable a b) b r → Ending q b r
   ending j = ended (weighed e j)
 
 -- ---- results tell the endings apart
@@ -141,14 +141,14 @@ module _ (q : Ready) (b : Rooms) (r : Result) where
 
 -- ---- the timetable
 
-module _ (text cand : List ℕ) (b : Rooms) (q : Ready) (r : Result) (e : readable text cand b ≡ got q) (n : ℕ) (v : r .verdict ≡ acceptance n) where
+module _ (a : Asked) (b : Rooms) (q : Ready) (r : Result) (e : readable a b ≡ got q) (n : ℕ) (v : r .verdict ≡ acceptance n) where
   module _ (t : Table q b r) where
     read-time : (m : ℕ) → timeOf (take n (r .rooms .room)) m ≡ pick (among m (t .names)) (got (t .times m)) (refused 21 m)
     read-time m =
         let z : n ≡ length (tableOf (content (t .names) (t .times) (q .atoms))) = lengths (sym v ∙ verdicts (t .is)) in
         ap (λ (k : ℕ). timeOf (take k (r .rooms .room)) m) z
         ∙ ap (λ (s : Result). timeOf (take (length (tableOf (content (t .names) (t .times) (q .atoms)))) (s .rooms .room)) m) (t .is)
-        ∙ reads-back text cand b q e (t .times) (t .earliest) (t .names) (t .all) m
+        ∙ reads-back a b q e (t .times) (t .earliest) (t .names) (t .all) m
 
     not-among : (m : ℕ) → (Name (q .lines) m → ⊥) → among m (t .names) ≡ false
     not-among m f = go (among m (t .names)) refl
@@ -176,11 +176,11 @@ module _ (text cand : List ℕ) (b : Rooms) (q : Ready) (r : Result) (e : readab
 
 -- demand 2
 pub demand-2 : Demand2
-demand-2 text cand b q r e j =
-    let w = ending text cand b q r e j in
+demand-2 a b q r e j =
+    let w = ending a b q r e j in
     record {
       accepted = (to q b r w, from q b r w);
-      timetable = λ n v. timetable text cand b q r e n v w;
+      timetable = λ n v. timetable a b q r e n v w;
       otherwise = other q b r w;
       first-broken = eight q b r w;
       smallest-unfounded = nine q b r w;

@@ -1,4 +1,4 @@
--- Gathering the differences in force: after i of them, the first n places hold those of the first i whose atom is marked.
+-- Gathering the differences in force, in place: after i of them, the first n places hold those of the first i whose atom is marked, and from i on nothing has changed.
 use Prim.Native.Nat.{ℕ, suc, _+_, _≤_, _<_}
 use mathlib.Core.Path.{_≡_, refl, sym, ap, _∙_}
 use mathlib.Core.List.{List, [], _∷_, _++_, append-nil}
@@ -9,9 +9,11 @@ use lib.IntN.{ℤ, pos}
 use lib.ListN.{length, getD, set, length-set, take}
 use lib.Seq.{getD-set-same, getD-set-other, getD-take, length-take-le}
 use Rattle.aspif.specs.Words.{word}
+use Rattle.terms.specs.Terms.{Stated}
 use Rattle.terms.specs.Tables.{firsts, heldAt}
+use Rattle.terms.specs.Values.{Roomy}
 use Rattle.terms.proofs.Turns.{firsts-same}
-use Rattle.judge.specs.Stages.{stated, inForce, Places, Gathered, Filled, SmallStated, Labelled, Candidate}
+use Rattle.judge.specs.Stages.{stated, inForce, Gathered, Filled, SmallStated, Labelled, Candidate}
 use Rattle.judge.proofs.Firsts.{length-firsts, in-force-append, firsts-all, all-force}
 use Rattle.judge.proofs.Few.{few-force}
 
@@ -19,11 +21,10 @@ use Rattle.judge.proofs.Few.{few-force}
 
 module _ (labels xs ys : List ℕ) (ks : List ℤ) (n a x y : ℕ) (k : ℤ)
     (ha : n < length labels) (hx : n < length xs) (hy : n < length ys) (hk : n < length ks) where
-  -- the places before it are as they were
-  others : (i : ℕ) → i < n → heldAt (set labels n a) (set xs n x) (set ys n y) (set ks n k) i ≡ heldAt labels xs ys ks i
+  -- the other places are as they were
+  others : (i : ℕ) → (i ≡ n → ⊥) → heldAt (set labels n a) (set xs n x) (set ys n y) (set ks n k) i ≡ heldAt labels xs ys ks i
   unfolding word
-  others i h =
-      let z : i ≡ n → ⊥ = λ e. omega arith in
+  others i z =
       rw (getD-set-other labels n i a 0 z, getD-set-other xs n i x 0 z, getD-set-other ys n i y 0 z, getD-set-other ks n i k (pos 0) z)
 
   -- it has what was stored
@@ -34,57 +35,90 @@ module _ (labels xs ys : List ℕ) (ks : List ℤ) (n a x y : ℕ) (k : ℤ)
   -- so the list has one more at its end
   one-more : stated (suc n) (set labels n a) (set xs n x) (set ys n y) (set ks n k) ≡ stated n labels xs ys ks ++ (record { atom = a; says = record { x = x; y = y; k = k } } ∷ [])
   unfolding firsts
-  one-more = rw (firsts-same n (heldAt (set labels n a) (set xs n x) (set ys n y) (set ks n k)) (heldAt labels xs ys ks) others, this)
+  one-more = rw (firsts-same n (heldAt (set labels n a) (set xs n x) (set ys n y) (set ks n k)) (heldAt labels xs ys ks) (λ i h. others i (λ e. omega arith)), this)
 
 -- ---- the loop
 
+-- four slices are as long as four others
+pub record Alike (atoms xs ys : List ℕ) (ks : List ℤ) (labels gxs gys : List ℕ) (gks : List ℤ) : Type 0 where
+  pub for-atoms : length labels ≡ length atoms
+  pub for-xs : length gxs ≡ length xs
+  pub for-ys : length gys ≡ length ys
+  pub for-ks : length gks ≡ length ks
+
 -- before difference i, of m
 pub record Going (atoms xs ys : List ℕ) (ks : List ℤ) (m : ℕ) (x labels gxs gys : List ℕ) (gks : List ℤ) (n i : ℕ) : Type 0 where
-  pub places : Places labels gxs gys gks
+  pub alike : Alike atoms xs ys ks labels gxs gys gks
+  pub roomy : Roomy labels gxs gys gks
   pub within : i ≤ m
   pub so-far : Gathered i (inForce x (stated i atoms xs ys ks)) n labels gxs gys gks
+  pub ahead : (j : ℕ) → i ≤ j → heldAt labels gxs gys gks j ≡ heldAt atoms xs ys ks j
+
+-- nothing is gathered
+pub going-start : (atoms xs ys : List ℕ) (ks : List ℤ) (m : ℕ) (x : List ℕ) → Filled m atoms xs ys ks → Going atoms xs ys ks m x atoms xs ys ks 0 0
+unfolding inForce firsts
+going-start atoms xs ys ks m x f = record { alike = record { for-atoms = refl; for-xs = refl; for-ys = refl; for-ks = refl }; roomy = f .roomy; within = omega arith; so-far = record { few = omega arith; is = refl }; ahead = λ j h. refl }
 
 module _ (atoms xs ys : List ℕ) (ks : List ℤ) (m : ℕ) (x labels gxs gys : List ℕ) (gks : List ℤ) where
-  -- nothing is gathered
-  pub going-start : Places labels gxs gys gks → Going atoms xs ys ks m x labels gxs gys gks 0 0
-  unfolding inForce firsts
-  going-start p = record { places = p; within = omega arith; so-far = record { few = omega arith; is = refl } }
-
   module _ (n i : ℕ) (g : Going atoms xs ys ks m x labels gxs gys gks n i) (l : i < m) where
+    -- difference i is where it was
+    here : heldAt labels gxs gys gks i ≡ heldAt atoms xs ys ks i
+    here = g .ahead i (omega arith)
+
+    -- and its atom is to 4,096
+    pub going-small : Filled m atoms xs ys ks → getD labels i 0 < 4097
+    unfolding word
+    going-small f =
+        let e : word labels i ≡ word atoms i = ap (λ (s : Stated). s .atom) here in
+        omega (arith, e, firsts-all SmallStated m (heldAt atoms xs ys ks) (f .small) i l .1)
+
+    -- one more is passed
+    passed : inForce x (stated (i + 1) atoms xs ys ks) ≡ inForce x (stated i atoms xs ys ks) ++ inForce x (heldAt labels gxs gys gks i ∷ [])
+    unfolding firsts
+    passed = rw (add-one i, here, in-force-append x (stated i atoms xs ys ks) (heldAt atoms xs ys ks i ∷ []))
+
     -- difference i is not in force
-    pub going-pass : (getD x (getD atoms i 0) 0 ≡ 1 → ⊥) → Going atoms xs ys ks m x labels gxs gys gks n (i + 1)
-    unfolding inForce firsts word
+    pub going-pass : (getD x (getD labels i 0) 0 ≡ 1 → ⊥) → Going atoms xs ys ks m x labels gxs gys gks n (i + 1)
+    unfolding inForce word
     going-pass h =
         record {
-          places = g .places;
+          alike = g .alike;
+          roomy = g .roomy;
           within = omega arith;
-          so-far = record {
-            few = omega (arith, g .so-far .few);
-            is = rw (add-one i, in-force-append x (stated i atoms xs ys ks) (heldAt atoms xs ys ks i ∷ []), ne-eqb _ _ h, append-nil) (g .so-far .is);
-          };
+          so-far = record { few = omega (arith, g .so-far .few); is = rw (passed, ne-eqb _ _ h, append-nil) (g .so-far .is) };
+          ahead = λ j k. g .ahead j (omega arith);
         }
 
     -- difference i is in force
-    pub going-take : m ≤ 4097 → getD x (getD atoms i 0) 0 ≡ 1 → (k : ℤ) → k ≡ getD ks i (pos 0)
-        → Going atoms xs ys ks m x (set labels n (getD atoms i 0)) (set gxs n (getD xs i 0)) (set gys n (getD ys i 0)) (set gks n k) (n + 1) (i + 1)
+    pub going-take : m ≤ 4097 → getD x (getD labels i 0) 0 ≡ 1 → (k : ℤ) → k ≡ getD gks i (pos 0)
+        → Going atoms xs ys ks m x (set labels n (getD labels i 0)) (set gxs n (getD gxs i 0)) (set gys n (getD gys i 0)) (set gks n k) (n + 1) (i + 1)
     unfolding inForce firsts word
     going-take f h k e =
-        let p = g .places in
+        let p = g .roomy in
         let few : n ≤ i = g .so-far .few in
         record {
-          places = record {
-            for-labels = length-set labels n _ ∙ p .for-labels;
-            for-xs = length-set gxs n _ ∙ p .for-xs;
-            for-ys = length-set gys n _ ∙ p .for-ys;
-            for-ks = length-set gks n _ ∙ p .for-ks;
+          alike = record {
+            for-atoms = simp length-set (g .alike .for-atoms);
+            for-xs = simp length-set (g .alike .for-xs);
+            for-ys = simp length-set (g .alike .for-ys);
+            for-ks = simp length-set (g .alike .for-ks);
+          };
+          roomy = record {
+            for-atoms = simp length-set (p .for-atoms);
+            for-xs = simp length-set (p .for-xs);
+            for-ys = simp length-set (p .for-ys);
+            for-ks = simp length-set (p .for-ks);
           };
           within = omega arith;
           so-far = record {
             few = omega arith;
             is =
-                rw (add-one i, add-one n, in-force-append x (stated i atoms xs ys ks) (heldAt atoms xs ys ks i ∷ []), eq-eqb _ _ h, ← g .so-far .is, ← e)
-                (one-more labels gxs gys gks n _ _ _ _ (omega (arith, p .for-labels)) (omega (arith, p .for-xs)) (omega (arith, p .for-ys)) (omega (arith, p .for-ks)));
+                rw (passed, add-one n, eq-eqb _ _ h, ← g .so-far .is, ← e)
+                (one-more labels gxs gys gks n _ _ _ _ (omega (arith, p .for-atoms)) (omega (arith, p .for-xs)) (omega (arith, p .for-ys)) (omega (arith, p .for-ks)));
           };
+          ahead = λ j w.
+              others labels gxs gys gks n _ _ _ _ (omega (arith, p .for-atoms)) (omega (arith, p .for-xs)) (omega (arith, p .for-ys)) (omega (arith, p .for-ks)) j (λ z. omega arith)
+              ∙ g .ahead j (omega arith);
         }
 
   -- all m are passed
@@ -105,11 +139,11 @@ module _ (m : ℕ) (atoms xs ys : List ℕ) (ks : List ℤ) (f : Filled m atoms 
       omega (arith, length-firsts n (heldAt labels gxs gys gks), ap length (g .is), few-force x (cand .none) (stated m atoms xs ys ks) (f .differ) (f .small))
 
   -- the parts of the slices that were filled are what the times are found of
-  pub gathered-labelled : Places labels gxs gys gks → Labelled (take n labels) (take n gxs) (take n gys) (take n gks)
+  pub gathered-labelled : Roomy labels gxs gys gks → Labelled (take n labels) (take n gxs) (take n gys) (take n gks)
   unfolding word
   gathered-labelled p =
       let few : n ≤ 4096 = gathered-few in
-      let ll : length (take n labels) ≡ n = length-take-le n labels (omega (arith, p .for-labels)) in
+      let ll : length (take n labels) ≡ n = length-take-le n labels (omega (arith, p .for-atoms)) in
       let lx : length (take n gxs) ≡ n = length-take-le n gxs (omega (arith, p .for-xs)) in
       let ly : length (take n gys) ≡ n = length-take-le n gys (omega (arith, p .for-ys)) in
       let lk : length (take n gks) ≡ n = length-take-le n gks (omega (arith, p .for-ks)) in

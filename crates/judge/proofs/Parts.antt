@@ -1,17 +1,19 @@
 -- The part of a line from a place on, by its places. Assumes nothing.
 use Prim.Native.Nat.{ℕ, _+_, _-_, _≤_, _<_}
-use mathlib.Core.Path.{_≡_, ap, _∙_}
-use mathlib.Core.Bool.{true, false}
+use mathlib.Core.Path.{_≡_, refl, ap, _∙_}
+use mathlib.Core.Bool.{Bool, true, false}
 use mathlib.Core.Logic.{_≢_}
 use mathlib.Core.List.{List, []}
 use native.Mathlib.Omega.{arith}
 use native.Mathlib.Nat.{add-zero}
-use borrow.Author.Tests.{eq-eqb, ne-eqb}
+use borrow.Author.Tests.{eq-eqb, ne-eqb, eqb-true}
 use lib.Dec.{eqb}
-use lib.ListN.{length, getD, take, drop, length-drop}
+use lib.ListN.{length, take, drop, length-drop}
 use lib.Seq.{drop-length, take-nil}
-use Rattle.fields.proofs.Runs.{run-out, run-stop, run-more, upTo-length, upTo-take}
-use Rattle.judge.specs.Shown.{isLineEnd, partFrom, inText, shown}
+use denote.Ref.{RefT, now}
+use Rattle.fields.proofs.Runs.{run-out, upTo-length, upTo-take, upTo-once}
+use Rattle.fields.specs.Fields.{upTo, isEither}
+use Rattle.judge.specs.Shown.{isLineEnd, partFrom, inText, shown, Part, IsShown}
 
 module _ (s : List ℕ) (i : ℕ) where
   -- beyond the end there is nothing
@@ -19,19 +21,10 @@ module _ (s : List ℕ) (i : ℕ) where
   unfolding partFrom
   part-out h = run-out isLineEnd s i h
 
-  -- a line ends at byte 10
-  pub end-here : i < length s → getD s i 0 ≡ 10 → i ≡ i + length (partFrom s i)
+  -- a part ends before byte 10
+  pub part-end : {e : ℕ} → e ≡ i + length (upTo (isEither 10 10) (drop i s)) → e ≡ i + length (partFrom s i)
   unfolding partFrom
-  end-here h e = rw (run-stop isLineEnd s i h (eq-eqb _ _ e), add-zero)
-
-  -- or at the end
-  pub end-out : length s ≤ i → i ≡ i + length (partFrom s i)
-  end-out h = rw (part-out h, add-zero)
-
-  -- and goes on at any other byte
-  pub end-later : i < length s → getD s i 0 ≢ 10 → i + 1 + length (partFrom s (i + 1)) ≡ i + length (partFrom s i)
-  unfolding partFrom
-  end-later h n = omega (arith, ap length (run-more isLineEnd s i h (ne-eqb _ _ n)))
+  part-end p = rw (upTo-once 10 (drop i s)) at p
 
   -- a part ends within the list
   pub part-within : i ≤ length s → i + length (partFrom s i) ≤ length s
@@ -51,18 +44,29 @@ behind-end s = ap (take (length s - length s)) (drop-length s) ∙ take-nil (len
 
 -- ---- what is shown
 
-module _ (k place : ℕ) (text cand : List ℕ) where
+not-both : {t : Bool} → t ≡ true → t ≡ false → ⊥
+not-both e f = let z : _≡_ {A = ℕ} 0 1 = (cc) in omega arith
+
+-- 7 is not shown from the text
+seven-elsewhere : (k : ℕ) → inText k ≡ true → eqb k 7 ≡ true → ⊥
+seven-elsewhere k t e = let z : k ≡ 7 = eqb-true k 7 e in let g : inText 7 ≡ true = rw z at t in not-both g refl
+
+-- what is shown from neither is nothing
+pub shown-none : (k place : ℕ) (text cand : List ℕ) → inText k ≡ false → eqb k 7 ≡ false → [] ≡ shown k place text cand
+unfolding shown
+shown-none k place text cand e f = rw (e, f)
+
+module _ (r text cand : RefT (List ℕ)) (k place : ℕ) where
   -- a part of the text
-  pub shown-text : inText k ≡ true → partFrom text place ≡ shown k place text cand
+  pub shows-text : Part r text place → inText k ≡ true → IsShown r text cand k place
   unfolding shown
-  shown-text e = rw e
+  shows-text p e = record { bytes = rw e (p .bytes); of-text = λ g. p; of-candidate = λ g. absurd (seven-elsewhere k e g) }
 
   -- a part of the candidate
-  pub shown-candidate : inText k ≡ false → eqb k 7 ≡ true → partFrom cand place ≡ shown k place text cand
+  pub shows-candidate : Part r cand place → inText k ≡ false → eqb k 7 ≡ true → IsShown r text cand k place
   unfolding shown
-  shown-candidate e f = rw (e, f)
+  shows-candidate p e f = record { bytes = rw (e, f) (p .bytes); of-text = λ g. absurd (not-both g e); of-candidate = λ g. p }
 
   -- nothing
-  pub shown-none : inText k ≡ false → eqb k 7 ≡ false → [] ≡ shown k place text cand
-  unfolding shown
-  shown-none e f = rw (e, f)
+  pub shows-none : now r ≡ [] → inText k ≡ false → eqb k 7 ≡ false → IsShown r text cand k place
+  shows-none p e f = record { bytes = p ∙ shown-none k place (now text) (now cand) e f; of-text = λ g. absurd (not-both g e); of-candidate = λ g. absurd (not-both g f) }

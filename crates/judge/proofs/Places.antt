@@ -21,8 +21,8 @@ use Rattle.terms.specs.Terms.{Stated, statedBy, known, faulty, more, difference
 use Rattle.terms.specs.Says.{Found, found, nothing, partOf}
 use Rattle.stable.specs.Meaning.{Atoms, broken, brokenAt, firstBroken}
 use Rattle.timetable.proofs.RoundTrip.{longest}
-use Rattle.judge.specs.Plan.{Rooms, Ready, planOf, pair, readable, InForce}
-use Rattle.judge.specs.Judged.{Each, NegativeCycle, cyclic, timed, unfounded, founded, broken as broken-rule, whole as sound, unreadable, ready}
+use Rattle.judge.specs.Plan.{Asked, Rooms, Ready, ready, lent, legible, pair, readable, InForce}
+use Rattle.judge.specs.Judged.{Each, NegativeCycle, cyclic, timed, unfounded, founded, broken as broken-rule, whole as sound, unreadable, ready as read-plan}
 use Rattle.judge.specs.Bounds.{Bounds}
 use Rattle.judge.proofs.Ascent.{of-member}
 use Rattle.judge.proofs.Readable.{read}
@@ -65,45 +65,42 @@ broken-place X (l ∷ ls) p h e = go (broken X (l .says)) (broken-place X ls p (
 
 -- ---- 1 to 7
 
-module _ (text : List ℕ) (short : length text ≤ 60000) where
-  -- 3 to 6
-  plan-place : (k p : ℕ) → planOf text ≡ refused k p → p ≤ 60000
-  unfolding planOf differences
-  plan-place k p = go (statements text) refl
-    where
-      go₂ : (ls : List Line) → AllSmall ls → (a : Answer (List Stated)) → differencesFrom [] ls ≡ a → mapped (λ (ds : List Stated). ls) a ≡ refused k p → p ≤ 60000
-      go₂ ls h (got ds) d e = absurd (never e)
-      go₂ ls h (refused i q) d e = omega (arith, differences-place [] ls i q h d, place-of e)
+-- 1
+lent-place : (b : Rooms) (k p : ℕ) → lent b ≡ refused k p → p ≤ 60000
+unfolding lent
+lent-place b k p = go (ltb (length (b .room)) 24592) (ltb (length (b .cycle)) 1024)
+  where
+    go : (u v : Bool) → _≡_ {A = Answer Unit} (pick u (refused 1 24592) (pick v (refused 1 1024) (got tt))) (refused k p) → p ≤ 60000
+    go true v e = omega (arith, place-of e)
+    go false true e = omega (arith, place-of e)
+    go false false e = absurd (never e)
 
-      go : (a : Answer (List Line)) → statements text ≡ a → bind a (λ ls. mapped (λ (ds : List Stated). ls) (differencesFrom [] ls)) ≡ refused k p → p ≤ 60000
-      go (got ls) s e = go₂ ls (statements-small text ls short s) (differencesFrom [] ls) refl e
-      go (refused i q) s e = omega (arith, statements-place text i q s, place-of e)
+-- 2 to 6
+legible-place : (text : List ℕ) (k p : ℕ) → legible text ≡ refused k p → p ≤ 60000
+unfolding legible differences
+legible-place text k p = go (ltb 60000 (length text)) (statements text) refl refl
+  where
+    go₂ : (ls : List Line) → AllSmall ls → (a : Answer (List Stated)) → differencesFrom [] ls ≡ a → mapped (λ (ds : List Stated). ls) a ≡ refused k p → p ≤ 60000
+    go₂ ls h (got ds) d e = absurd (never e)
+    go₂ ls h (refused i q) d e = omega (arith, differences-place [] ls i q h d, place-of e)
 
-  -- 3 to 7
-  pair-place : (cand : List ℕ) (k p : ℕ) → pair text cand ≡ refused k p → p ≤ 60000
-  unfolding pair
-  pair-place cand k p = go (planOf text) refl
-    where
-      go₂ : (ls : List Line) (a : Answer (List ℕ)) → candidate cand ≡ a → _≡_ {A = Answer Ready} (mapped (λ (cs : List ℕ). record { lines = ls; atoms = cs }) a) (refused k p) → p ≤ 60000
-      go₂ ls (got cs) c e = absurd (never e)
-      go₂ ls (refused i q) c e = omega (arith, candidate-near cand i q c, place-of e)
-
-      go : (a : Answer (List Line)) → planOf text ≡ a
-          → _≡_ {A = Answer Ready} (bind a (λ ls. mapped (λ (cs : List ℕ). record { lines = ls; atoms = cs }) (candidate cand))) (refused k p) → p ≤ 60000
-      go (got ls) s e = go₂ ls (candidate cand) refl e
-      go (refused i q) s e = omega (arith, plan-place i q s, place-of e)
+    go : (w : Bool) (a : Answer (List Line)) → ltb 60000 (length text) ≡ w → statements text ≡ a
+        → pick w (refused 2 60000) (bind a (λ ls. mapped (λ (ds : List Stated). ls) (differencesFrom [] ls))) ≡ refused k p → p ≤ 60000
+    go true a t s e = omega (arith, place-of e)
+    go false (got ls) t s e = go₂ ls (statements-small text ls (ltb-false 60000 (length text) t) s) (differencesFrom [] ls) refl e
+    go false (refused i q) t s e = omega (arith, ltb-false 60000 (length text) t, statements-place text i q s, place-of e)
 
 -- 1 to 7
-readable-place : (text cand : List ℕ) (b : Rooms) (k p : ℕ) → readable text cand b ≡ refused k p → p ≤ 60000
-unfolding readable
-readable-place text cand b k p = go (ltb (length (b .room)) 24592) (ltb (length (b .cycle)) 1024) (ltb 60000 (length text)) refl
+readable-place : (a : Asked) (b : Rooms) (k p : ℕ) → readable a b ≡ refused k p → p ≤ 60000
+unfolding readable pair
+readable-place a b k p = go (lent b) (legible (a .text)) (candidate (a .cand)) refl refl refl
   where
-    go : (u v w : Bool) → ltb 60000 (length text) ≡ w
-        → pick u (refused 1 24592) (pick v (refused 1 1024) (pick w (refused 2 60000) (pair text cand))) ≡ refused k p → p ≤ 60000
-    go true v w g e = omega (arith, place-of e)
-    go false true w g e = omega (arith, place-of e)
-    go false false true g e = omega (arith, place-of e)
-    go false false false g e = pair-place text (ltb-false 60000 (length text) g) cand k p e
+    go : (u : Answer Unit) (v : Answer (List Line)) (w : Answer (List ℕ)) → lent b ≡ u → legible (a .text) ≡ v → candidate (a .cand) ≡ w
+        → _≡_ {A = Answer Ready} (bind u (λ (i : Unit {0}). bind v (λ ls. mapped (ready ls) w))) (refused k p) → p ≤ 60000
+    go (refused i q) v w e f g h = omega (arith, lent-place b i q e, place-of h)
+    go (got t) (refused i q) w e f g h = omega (arith, legible-place (a .text) i q f, place-of h)
+    go (got t) (got ls) (refused i q) e f g h = omega (arith, candidate-near (a .cand) i q g, place-of h)
+    go (got t) (got ls) (got cs) e f g h = absurd (never h)
 
 -- ---- 9 to 11, and the timetable
 
@@ -124,29 +121,29 @@ names-small : (S : Diff → Type 0) → ((d : Diff) → S d → d .x < 1024) →
 names-small S f [] h = tt
 names-small S f (d ∷ ds) h = (f d (h .0), names-small S f ds (h .1))
 
-module _ (text cand : List ℕ) (b : Rooms) (q : Ready) (e : readable text cand b ≡ got q) where
+module _ (a : Asked) (b : Rooms) (q : Ready) (e : readable a b ≡ got q) where
   -- a cycle has at most 1,024 atoms: its names differ
   cycle-short : (cs : List ℕ) → NegativeCycle q cs → length cs ≤ 1024
   cycle-short cs n =
       omega (
         arith,
         each-long q cs (n .ds) (n .each),
-        pigeon 1024 (firsts (n .ds)) (n .cycle .different) (names-small (InForce q) (λ d f. in-force-small text cand b q e d f .x-small) (n .ds) (cycle-in-force q cs n .members)),
+        pigeon 1024 (firsts (n .ds)) (n .cycle .different) (names-small (InForce q) (λ d f. in-force-small a b q e d f .x-small) (n .ds) (cycle-in-force q cs n .members)),
         length-map (n .ds) (λ (d : Diff). d .x),
       )
 
 -- every number of a verdict is within its bound
 pub places-bounded : Bounds
-places-bounded text cand b r (unreadable k p e f) = rw f (readable-place text cand b k p e)
-places-bounded text cand b r (ready q e (broken-rule p f g)) =
-    let t = read text cand b q e in
-    rw g (broken-place _ (q .lines) p (statements-small text (q .lines) (t .short) (t .lines)) f)
-places-bounded text cand b r (ready q e (sound f (unfounded a g h))) =
-    let s = atoms-small 0 (q .atoms) (candidate-ascending cand (q .atoms) (read text cand b q e .atoms)) in
-    let l : a ≤ 4096 = of-member (λ c. c ≤ 4096) (q .atoms) a s (g .unfounded .holds) in
+places-bounded a b r (unreadable k p e f) = rw f (readable-place a b k p e)
+places-bounded a b r (read-plan q e (broken-rule p f g)) =
+    let t = read a b q e in
+    rw g (broken-place _ (q .lines) p (statements-small (a .text) (q .lines) (t .short) (t .lines)) f)
+places-bounded a b r (read-plan q e (sound f (unfounded c g h))) =
+    let s = atoms-small 0 (q .atoms) (candidate-ascending (a .cand) (q .atoms) (read a b q e .atoms)) in
+    let l : c ≤ 4096 = of-member (λ n. n ≤ 4096) (q .atoms) c s (g .unfounded .holds) in
     rw h (omega arith)
-places-bounded text cand b r (ready q e (sound f (founded g (cyclic cs h i)))) =
-    let l = cycle-short text cand b q e cs h in
+places-bounded a b r (read-plan q e (sound f (founded g (cyclic cs h i)))) =
+    let l = cycle-short a b q e cs h in
     rw i (omega arith)
-places-bounded text cand b r (ready q e (sound f (founded g (timed u h ns i j)))) =
-    rw (j, table-got text cand b q e u h ns i) (longest (content ns u (q .atoms)) (content-within text cand b q e u h ns i))
+places-bounded a b r (read-plan q e (sound f (founded g (timed u h ns i j)))) =
+    rw (j, table-got a b q e u h ns i) (longest (content ns u (q .atoms)) (content-within a b q e u h ns i))

@@ -12,78 +12,77 @@ use Rattle.aspif.specs.Statements.{Line}
 use Rattle.aspif.specs.Grammar.{statements}
 use Rattle.aspif.specs.Candidate.{candidate}
 use Rattle.terms.specs.Terms.{Stated, differences}
-use Rattle.judge.specs.Plan.{Rooms, Ready, planOf, pair, readable}
+use Rattle.judge.specs.Plan.{Asked, Rooms, Ready, ready, lent, legible, pair, readable}
 
 never : {A : Type 0} {k p : ℕ} {a : A} → refused k p ≡ got a → ⊥
 never e = let z : _≡_ {A = ℕ} 0 1 = (cc) in omega arith
 
 -- what was read, of rooms that are long enough
-pub record Read (text cand : List ℕ) (b : Rooms) (q : Ready) : Type 0 where
+pub record Read (a : Asked) (b : Rooms) (q : Ready) : Type 0 where
   pub room : 24592 ≤ length (b .room)
   pub cycle : 1024 ≤ length (b .cycle)
-  pub short : length text ≤ 60000
-  pub lines : statements text ≡ got (q .lines)
+  pub short : length (a .text) ≤ 60000
+  pub lines : statements (a .text) ≡ got (q .lines)
   pub stated : List Stated
   pub sound : differences (q .lines) ≡ got stated
-  pub atoms : candidate cand ≡ got (q .atoms)
+  pub atoms : candidate (a .cand) ≡ got (q .atoms)
 
--- the lines of a plan, and what they state
-record Planned (text : List ℕ) (ls : List Line) : Type 0 where
+-- rooms that were lent are long enough
+long : (b : Rooms) {u : Unit {0}} → lent b ≡ got u → (24592 ≤ length (b .room)) × (1024 ≤ length (b .cycle))
+unfolding lent
+long b {u} = go (ltb (length (b .room)) 24592) (ltb (length (b .cycle)) 1024) refl refl
+  where
+    go : (v w : Bool) → ltb (length (b .room)) 24592 ≡ v → ltb (length (b .cycle)) 1024 ≡ w
+        → pick v (refused 1 24592) (pick w (refused 1 1024) (got tt)) ≡ got u → (24592 ≤ length (b .room)) × (1024 ≤ length (b .cycle))
+    go true w e f h = absurd (never h)
+    go false true e f h = absurd (never h)
+    go false false e f h = (ltb-false (length (b .room)) 24592 e, ltb-false (length (b .cycle)) 1024 f)
+
+-- the lines of a text that is legible, and what they state
+record Legible (text : List ℕ) (ls : List Line) : Type 0 where
+  short : length text ≤ 60000
   lines : statements text ≡ got ls
   stated : List Stated
   sound : differences ls ≡ got stated
 
-planned : (text : List ℕ) (ls : List Line) → planOf text ≡ got ls → Planned text ls
-unfolding planOf
-planned text ls = go (statements text) refl
+legible-is : (text : List ℕ) (ls : List Line) → legible text ≡ got ls → Legible text ls
+unfolding legible
+legible-is text ls = go (ltb 60000 (length text)) (statements text) refl refl
   where
-    go₂ : (xs : List Line) → statements text ≡ got xs → (a : Answer (List Stated)) → differences xs ≡ a
-        → mapped (λ (ds : List Stated). xs) a ≡ got ls → Planned text ls
-    go₂ xs s (got ds) d e = let z : xs ≡ ls = (cc) in record { lines = (cc); stated = ds; sound = rw z at d }
-    go₂ xs s (refused k p) d e = absurd (never e)
+    go₂ : (xs : List Line) → length text ≤ 60000 → statements text ≡ got xs → (a : Answer (List Stated)) → differences xs ≡ a
+        → mapped (λ (ds : List Stated). xs) a ≡ got ls → Legible text ls
+    go₂ xs t s (got ds) d e = let z : xs ≡ ls = (cc) in record { short = t; lines = (cc); stated = ds; sound = rw z at d }
+    go₂ xs t s (refused k p) d e = absurd (never e)
 
-    go : (a : Answer (List Line)) → statements text ≡ a → bind a (λ xs. mapped (λ (ds : List Stated). xs) (differences xs)) ≡ got ls → Planned text ls
-    go (got xs) s e = go₂ xs s (differences xs) refl e
-    go (refused k p) s e = absurd (never e)
+    go : (w : Bool) (a : Answer (List Line)) → ltb 60000 (length text) ≡ w → statements text ≡ a
+        → pick w (refused 2 60000) (bind a (λ xs. mapped (λ (ds : List Stated). xs) (differences xs))) ≡ got ls → Legible text ls
+    go true a t s e = absurd (never e)
+    go false (got xs) t s e = go₂ xs (ltb-false 60000 (length text) t) s (differences xs) refl e
+    go false (refused k p) t s e = absurd (never e)
 
-module _ (text cand : List ℕ) (b : Rooms) (q : Ready) where
-  paired : 24592 ≤ length (b .room) → 1024 ≤ length (b .cycle) → length text ≤ 60000 → pair text cand ≡ got q → Read text cand b q
-  unfolding pair
-  paired r c t = go (planOf text) refl
-    where
-      go₂ : (xs : List Line) → planOf text ≡ got xs → (a : Answer (List ℕ)) → candidate cand ≡ a
-          → _≡_ {A = Answer Ready} (mapped (λ (cs : List ℕ). record { lines = xs; atoms = cs }) a) (got q) → Read text cand b q
-      go₂ xs p (got cs) d e =
-          let z : _≡_ {A = Ready} (record { lines = xs; atoms = cs }) q = (cc) in
-          let y : xs ≡ q .lines = (cc) in
-          let w : cs ≡ q .atoms = (cc) in
-          let f = planned text (q .lines) (rw y at p) in
-          record { room = r; cycle = c; short = t; lines = f .lines; stated = f .stated; sound = f .sound; atoms = rw w at d }
-      go₂ xs p (refused k i) d e = absurd (never e)
-
-      go : (a : Answer (List Line)) → planOf text ≡ a
-          → _≡_ {A = Answer Ready} (bind a (λ xs. mapped (λ (cs : List ℕ). record { lines = xs; atoms = cs }) (candidate cand))) (got q) → Read text cand b q
-      go (got xs) p e = go₂ xs p (candidate cand) refl e
-      go (refused k i) p e = absurd (never e)
-
-  -- a plan that is readable was read
-  pub read : readable text cand b ≡ got q → Read text cand b q
-  unfolding readable
-  read = go (ltb (length (b .room)) 24592) (ltb (length (b .cycle)) 1024) (ltb 60000 (length text)) refl refl refl
-    where
-      go : (u v w : Bool) → ltb (length (b .room)) 24592 ≡ u → ltb (length (b .cycle)) 1024 ≡ v → ltb 60000 (length text) ≡ w
-          → pick u (refused 1 24592) (pick v (refused 1 1024) (pick w (refused 2 60000) (pair text cand))) ≡ got q → Read text cand b q
-      go true v w e f g h = absurd (never h)
-      go false true w e f g h = absurd (never h)
-      go false false true e f g h = absurd (never h)
-      go false false false e f g h =
-          paired (ltb-false (length (b .room)) 24592 e) (ltb-false (length (b .cycle)) 1024 f) (ltb-false 60000 (length text) g) h
+-- a plan that is readable was read
+pub read : (a : Asked) (b : Rooms) (q : Ready) → readable a b ≡ got q → Read a b q
+unfolding readable pair
+read a b q = go (lent b) (legible (a .text)) (candidate (a .cand)) refl refl refl
+  where
+    go : (u : Answer Unit) (v : Answer (List Line)) (w : Answer (List ℕ)) → lent b ≡ u → legible (a .text) ≡ v → candidate (a .cand) ≡ w
+        → _≡_ {A = Answer Ready} (bind u (λ (i : Unit {0}). bind v (λ ls. mapped (ready ls) w))) (got q) → Read a b q
+    go (refused k p) v w e f g h = absurd (never h)
+    go (got i) (refused k p) w e f g h = absurd (never h)
+    go (got i) (got ls) (refused k p) e f g h = absurd (never h)
+    go (got i) (got ls) (got cs) e f g h =
+        let z : _≡_ {A = Ready} (ready ls cs) q = (cc) in
+        let y : ls ≡ q .lines = (cc) in
+        let x : cs ≡ q .atoms = (cc) in
+        let l = long b e in
+        let t = legible-is (a .text) (q .lines) (rw y at f) in
+        record { room = l .0; cycle = l .1; short = t .short; lines = t .lines; stated = t .stated; sound = t .sound; atoms = rw x at g }
 
 -- a plan that was read is readable
-pub readable-got : (text cand : List ℕ) (b : Rooms) {ls : List Line} {ds : List Stated} {cs : List ℕ}
-    → 24592 ≤ length (b .room) → 1024 ≤ length (b .cycle) → length text ≤ 60000
-    → statements text ≡ got ls → differences ls ≡ got ds → candidate cand ≡ got cs
-    → readable text cand b ≡ got (record { lines = ls; atoms = cs })
-unfolding readable pair planOf
-readable-got text cand b h g l s d c =
-    rw (le-ltb (length (b .room)) 24592 h, le-ltb (length (b .cycle)) 1024 g, le-ltb 60000 (length text) l, s, d, c)
+pub readable-got : (a : Asked) (b : Rooms) {ls : List Line} {ds : List Stated} {cs : List ℕ}
+    → 24592 ≤ length (b .room) → 1024 ≤ length (b .cycle) → length (a .text) ≤ 60000
+    → statements (a .text) ≡ got ls → differences ls ≡ got ds → candidate (a .cand) ≡ got cs
+    → readable a b ≡ got (ready ls cs)
+unfolding readable lent legible pair
+readable-got a b h g l s d c =
+    rw (le-ltb (length (b .room)) 24592 h, le-ltb (length (b .cycle)) 1024 g, le-ltb 60000 (length (a .text)) l, s, d, c)

@@ -16,7 +16,7 @@ use Rattle.diffs.specs.Diff.{Diff, Keeps, KeepsAll, whole, Earliest, Sum, Cycle
 use Rattle.diffs.specs.Answer.{LeastFirst}
 use Rattle.diffs.proofs.Cycles.{exclusive}
 use Rattle.diffs.proofs.EarliestTimes.{earliest-unique}
-use Rattle.diffs.proofs.Integers.{lt-up, up-lt, add-up, neg-up, keeps-holds, holds-keeps}
+use Rattle.diffs.proofs.Integers.{up-lt, add-up, neg-up, keeps-holds, holds-keeps}
 use Rattle.terms.specs.Says.{Some, Name, Names}
 use Rattle.terms.specs.Terms.{Stated, differences}
 use Rattle.terms.proofs.Stating.{says-listed, listed-says}
@@ -123,7 +123,7 @@ module _ (q : Ready) (k j : ℕ) (said : differences (q .lines) ≡ got (stated 
         exclusive (InForce q) (two k ∷ three j ∷ []) t
         (record {
           members = (record { atom = 2; held = held-two holds-two }, (record { atom = 3; held = held-three holds-three }, tt));
-          cycle = record { start = 4; closed = (refl, (refl, refl)); different = ((λ e. omega (arith, e), tt), (tt, tt)) };
+          cycle = record { some = omega arith; start = 4; closed = (refl, (refl, refl)); different = ((λ e. omega (arith, e), tt), (tt, tt)) };
           below = below;
         })
         h
@@ -149,7 +149,7 @@ module _ (q : Ready) (k j : ℕ) (said : differences (q .lines) ≡ got (stated 
     pair a b d e (inr p) (inr s) n l = absurd (n (ap (λ (c : Diff). c .x) (p .1 ∙ sym (s .1))))
 
     only : (cs : List ℕ) (ds : List Diff) → Each q cs ds → Cycle ds → Sum ds <ℤ pos 0 → LeastFirst cs → cs ≡ 2 ∷ 3 ∷ []
-    only [] [] e c s l = absurd (omega (arith, lt-up s))
+    only [] [] e c s l = absurd (omega (arith, c .some))
     only [] (d ∷ ds) e c s l = absurd e
     only (a ∷ cs) [] e c s l = absurd e
     only (a ∷ []) (d ∷ []) e c s l = absurd (differ a d (e .0) (c .closed .0 ∙ sym (c .closed .1)))

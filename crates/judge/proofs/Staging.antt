@@ -6,22 +6,23 @@ use mathlib.Core.List.{List, [], _∷_}
 use native.Mathlib.Omega.{arith}
 use borrow.Author.Tests.{ne-eqb, le-ltb}
 use lib.IntN.{ℤ}
-use lib.ListN.{length, take}
-use Rattle.faults.specs.Answer.{got, refused, mapped}
+use lib.ListN.{length, take, replicate, length-replicate}
+use Rattle.faults.specs.Answer.{got, refused}
 use Rattle.faults.specs.Marks.{among, isMarked}
 use Rattle.faults.proofs.Marks.{marked-holds}
 use Rattle.aspif.specs.Statements.{Line}
 use Rattle.aspif.specs.Grammar.{statements}
+use Rattle.aspif.specs.Words.{linesOf, Taped}
 use Rattle.aspif.specs.Candidate.{candidate, atomsOf, AscendingFrom}
 use Rattle.aspif.proofs.Candidates.{candidate-ascending}
 use Rattle.terms.specs.Says.{headed}
 use Rattle.terms.specs.Terms.{Stated, differences, external}
+use Rattle.terms.specs.Values.{Roomy}
 use Rattle.terms.specs.Marks.{Marks}
 use Rattle.terms.proofs.Naming.{externals-are}
 use Rattle.stable.specs.Meaning.{Atoms, Founding, FoundedBy, Broken, firstBroken}
-use Rattle.judge.specs.Plan.{Rooms, holds, planOf, pair, readable}
-use Rattle.judge.specs.Judged.{Result, Judges, Judged}
-use Rattle.judge.specs.Stages.{Stating, Candidate, Sized, ready, readyAt}
+use Rattle.judge.specs.Plan.{Asked, Rooms, holds, lent, legible, pair, readable}
+use Rattle.judge.specs.Stages.{stated, Stating, Candidate, Sized, readyAt}
 use Rattle.judge.proofs.Said.{stating-filled}
 
 -- the bitmap of the candidate is its set
@@ -47,34 +48,54 @@ above-zero low [] h = refl
 above-zero low (v ∷ vs) h = rw (ne-eqb 0 v (λ e. omega (arith, h .0))) (above-zero v vs (h .2))
 
 -- no candidate marks atom 0
-pub zero-unmarked : (s x : List ℕ) → candidate s ≡ got (atomsOf x) → isMarked x 0 ≡ false
+zero-unmarked : (s x : List ℕ) → candidate s ≡ got (atomsOf x) → isMarked x 0 ≡ false
 zero-unmarked s x e = sym (marked-holds x 0) ∙ above-zero 0 (atomsOf x) (candidate-ascending s (atomsOf x) e)
 
-module _ (text cand : List ℕ) where
-  -- with rooms long enough and a text of at most 60,000 bytes, the pair decides
-  pub pair-decides : {b : Rooms} {r : Result} → Sized (b .room) (b .cycle) → length text ≤ 60000 → Judges (pair text cand) b r → Judged text cand b r
-  unfolding readable
-  pair-decides {b} z h j = rw (le-ltb (length (b .room)) 24592 (z .bytes), le-ltb (length (b .cycle)) 1024 (z .places), le-ltb 60000 (length text) h) j
+module _ (a : Asked) (b : Rooms) (z : Sized (b .room) (b .cycle)) (h : length (a .text) ≤ 60000) where
+  -- 3 to 5 refuse what was asked
+  pub unread : (k p : ℕ) → statements (a .text) ≡ refused k p → readable a b ≡ refused k p
+  unfolding readable lent legible
+  unread k p e = rw (le-ltb (length (b .room)) 24592 (z .bytes), le-ltb (length (b .cycle)) 1024 (z .places), le-ltb 60000 (length (a .text)) h, e)
 
-  -- 3 to 5 refuse the pair
-  pub pair-unread : (k p : ℕ) → statements text ≡ refused k p → pair text cand ≡ refused k p
-  unfolding pair planOf
-  pair-unread k p e = rw e
-
-  module _ (ls : List Line) (e : statements text ≡ got ls) where
-    -- 6 refuses the pair
-    pub pair-unsound : (k p : ℕ) → differences ls ≡ refused k p → pair text cand ≡ refused k p
-    unfolding pair planOf
-    pair-unsound k p d = rw (e, d)
+  module _ (ls : List Line) (e : statements (a .text) ≡ got ls) where
+    -- 6 refuses it
+    pub unsound : (k p : ℕ) → differences ls ≡ refused k p → readable a b ≡ refused k p
+    unfolding readable lent legible
+    unsound k p d = rw (le-ltb (length (b .room)) 24592 (z .bytes), le-ltb (length (b .cycle)) 1024 (z .places), le-ltb 60000 (length (a .text)) h, e, d)
 
     -- else the candidate decides
-    pub pair-goes : (ds : List Stated) → differences ls ≡ got ds → pair text cand ≡ mapped (ready ls) (candidate cand)
-    unfolding pair planOf
-    pair-goes ds d = rw (e, d)
+    pub pair-decides : (ds : List Stated) → differences ls ≡ got ds → readable a b ≡ pair ls (a .cand)
+    unfolding readable lent legible
+    pair-decides ds d = rw (le-ltb (length (b .room)) 24592 (z .bytes), le-ltb (length (b .cycle)) 1024 (z .places), le-ltb 60000 (length (a .text)) h, e, d)
 
 -- the candidate's bitmap makes the plan ready, or 7 refuses it
-pub pair-ready : (ls : List Line) (cand x : List ℕ) → got (atomsOf x) ≡ candidate cand → mapped (ready ls) (candidate cand) ≡ got (readyAt ls x)
+pub pair-ready : (ls : List Line) (cand x : List ℕ) → got (atomsOf x) ≡ candidate cand → pair ls cand ≡ got (readyAt ls x)
+unfolding pair
 pair-ready ls cand x e = rw (← e)
 
-pub pair-refused : (ls : List Line) (cand : List ℕ) (k p : ℕ) → refused k p ≡ candidate cand → mapped (ready ls) (candidate cand) ≡ refused k p
+pub pair-refused : (ls : List Line) (cand : List ℕ) (k p : ℕ) → refused k p ≡ candidate cand → pair ls cand ≡ refused k p
+unfolding pair
 pair-refused ls cand k p e = rw (← e)
+
+-- no candidate marks atom 0, and its bitmap has 4,097 places
+pub marked : (cand x : List ℕ) → length x ≡ length (replicate {A = ℕ} 4097 0) → got (atomsOf x) ≡ candidate cand → Candidate x
+marked cand x l e = record { places = l ∙ length-replicate {A = ℕ} 4097 0; none = zero-unmarked cand x (sym e) }
+
+-- of a text that has passed: its lines stand on the tape, the slices have the differences that they state, and the candidate decides
+pub record Passed (a : Asked) (b : Rooms) (tape : List ℕ) (n : ℕ) (atoms xs ys : List ℕ) (ks : List ℤ) (m : ℕ) : Type 0 where
+  pub taped : Taped tape n
+  pub short : length tape ≤ 60000
+  pub stating : Stating (linesOf tape n) m atoms xs ys ks
+  pub decides : readable a b ≡ pair (linesOf tape n) (a .cand)
+
+pub passed : (a : Asked) (b : Rooms) {long : ℕ} {tape : List ℕ} {n : ℕ} {atoms xs ys : List ℕ} {ks : List ℤ} {m : ℕ}
+    → (length (a .text) ≤ long) × (long ≤ 60000) × Sized (b .room) (b .cycle) → length tape ≡ long
+    → got (linesOf tape n) ≡ statements (a .text) → Taped tape n → got (stated m atoms xs ys ks) ≡ differences (linesOf tape n) → Roomy atoms xs ys ks
+    → Passed a b tape n atoms xs ys ks m
+passed a b {tape = tape} {n} pre k e w d r =
+    record {
+      taped = w;
+      short = omega (arith, pre .1);
+      stating = record { small = w .small; stated = sym d; roomy = r };
+      decides = pair-decides a b (pre .2) (omega (arith, pre .0, pre .1)) (linesOf tape n) (sym e) _ (sym d);
+    }

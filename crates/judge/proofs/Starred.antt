@@ -18,7 +18,7 @@ use Rattle.terms.specs.Says.{headed}
 use Rattle.terms.specs.Terms.{Stated, taken, external}
 use Rattle.stable.specs.Meaning.{Atoms, Least, Founded, firstBroken, unbroken, brokenAt}
 use Rattle.timetable.proofs.Writing.{length-table}
-use Rattle.judge.specs.Plan.{Rooms, Ready, readable, InForce}
+use Rattle.judge.specs.Plan.{Asked, Rooms, Ready, asked, ready, readable, InForce}
 use Rattle.judge.specs.Judged.{acceptance, Result, showing, Judged}
 use Rattle.judge.specs.Texts.{bytesOf, planP, planQ, planTight, planExternal, planLoop, planOdd}
 use Rattle.judge.specs.Demand2.{NoneBroken, BrokenAt, NoneUnfounded, UnfoundedAt}
@@ -32,42 +32,42 @@ use Rattle.judge.proofs.Texts.{Says, linesP, linesExternal, linesLoop, 
 
 -- ---- from what was computed of a text and a candidate to what is allowed
 
-module _ (text cand : List ℕ) (ls : List Line) (ds : List Stated) (cs : List ℕ) (s : Says text ls ds) (c : candidate cand ≡ got cs) where
+module _ (a : Asked) (ls : List Line) (ds : List Stated) (cs : List ℕ) (s : Says (a .text) ls ds) (c : candidate (a .cand) ≡ got cs) where
   abbrev plan : Ready
-  plan = record { lines = ls; atoms = cs }
+  plan = ready ls cs
 
-  reads : (b : Rooms) → 24592 ≤ length (b .room) → 1024 ≤ length (b .cycle) → readable text cand b ≡ got plan
-  reads b h g = readable-got text cand b h g (s .short) (s .lines) (s .stated) c
+  reads : (b : Rooms) → 24592 ≤ length (b .room) → 1024 ≤ length (b .cycle) → readable a b ≡ got plan
+  reads b h g = readable-got a b h g (s .short) (s .lines) (s .stated) c
 
   -- 8
-  eight : (p : ℕ) → BrokenAt plan p → Always text cand (Refuses 8 p)
-  eight p e b r h g i = demand-2 text cand b plan r (reads b h g) i .first-broken p .1 e
+  eight : (p : ℕ) → BrokenAt plan p → Always a (Refuses 8 p)
+  eight p e b r h g i = demand-2 a b plan r (reads b h g) i .first-broken p .1 e
 
   -- 9
-  nine : (a : ℕ) → NoneBroken plan → UnfoundedAt plan a → Always text cand (Refuses 9 a)
-  nine a e u b r h g i = demand-2 text cand b plan r (reads b h g) i .smallest-unfounded a .1 (e, u)
+  nine : (n : ℕ) → NoneBroken plan → UnfoundedAt plan n → Always a (Refuses 9 n)
+  nine n e u b r h g i = demand-2 a b plan r (reads b h g) i .smallest-unfounded n .1 (e, u)
 
 -- of plans that say recv - send ≤ k and send - recv ≤ - j
-module _ (text cand : List ℕ) (ls : List Line) (k j : ℕ) (cs : List ℕ) (s : Says text ls (stated k j)) (c : candidate cand ≡ got cs) where
+module _ (a : Asked) (ls : List Line) (k j : ℕ) (cs : List ℕ) (s : Says (a .text) ls (stated k j)) (c : candidate (a .cand) ≡ got cs) where
   abbrev plan₂ : Ready
-  plan₂ = plan text cand ls (stated k j) cs s c
+  plan₂ = plan a ls (stated k j) cs s c
 
   module _ (b : Rooms) (r : Result) (h : 24592 ≤ length (b .room)) (g : 1024 ≤ length (b .cycle)) where
-    sums : among 2 cs ≡ true → among 3 cs ≡ true → Sums text cand (2 ∷ 3 ∷ []) (pos k +ℤ (negℤ (pos j) +ℤ pos 0)) b
+    sums : among 2 cs ≡ true → among 3 cs ≡ true → Sums a (2 ∷ 3 ∷ []) (pos k +ℤ (negℤ (pos j) +ℤ pos 0)) b
     sums e f = record {
       plan = plan₂;
-      read = reads text cand ls (stated k j) cs s c b h g;
+      read = reads a ls (stated k j) cs s c b h g;
       ds = two k ∷ three j ∷ [];
       each = (held-two plan₂ k j (s .stated) e, (held-three plan₂ k j (s .stated) f, tt));
       is = refl;
     }
 
-    module _ (holds : among 3 cs ≡ true) (fits : (among 2 cs ≡ false) ⊎ (j ≤ k)) (n : ℕ) (long : 32 + 4 * length cs ≡ n) (i : Judged text cand b r) where
+    module _ (holds : among 3 cs ≡ true) (fits : (among 2 cs ≡ false) ⊎ (j ≤ k)) (n : ℕ) (long : 32 + 4 * length cs ≡ n) (i : Judged a b r) where
       of-table : Table plan₂ b r → Accepts n 0 j cs b r
       of-table t =
           let is = two-table plan₂ k j (s .stated) holds fits b r t in
           let v : r .verdict ≡ acceptance n = ap (λ (x : Result). x .verdict) is ∙ ap acceptance (omega (arith, length-table (sendRecv 0 j cs), long)) in
-          let d = demand-2 text cand b plan₂ r (reads text cand ls (stated k j) cs s c b h g) i .timetable n v in
+          let d = demand-2 a b plan₂ r (reads a ls (stated k j) cs s c b h g) i .timetable n v in
           let e = earliest-unique (InForce plan₂) (d .times) (times j) (d .earliest) (two-times plan₂ k j (s .stated) holds fits) in
           let ns = two-names plan₂ k j (s .stated) .only in
           record {
@@ -79,21 +79,21 @@ module _ (text cand : List ℕ) (ls : List Line) (k j : ℕ) (cs : List ℕ) (s 
 
       accepted-by : NoneBroken plan₂ → NoneUnfounded plan₂ → Ending plan₂ b r → Accepts n 0 j cs b r
       accepted-by u f (at-eight p x y) = let z : _≡_ {A = ℕ} 0 1 = (cc) in absurd (omega arith)
-      accepted-by u f (at-nine x a y z) = absurd (f a (y .unfounded))
+      accepted-by u f (at-nine x c y z) = absurd (f c (y .unfounded))
       accepted-by u f (at-ten x y z) = absurd (no-times plan₂ (z .list) (z .negative) (whole (times j)) (two-times plan₂ k j (s .stated) holds fits .keeps))
       accepted-by u f (at-end x y t) = of-table t
 
     -- 10
     shown-by : (holds-two : among 2 cs ≡ true) (holds-three : among 3 cs ≡ true) (more : k < j) → NoneBroken plan₂ → NoneUnfounded plan₂ → Ending plan₂ b r → r ≡ showing b (2 ∷ 3 ∷ [])
     shown-by e f m u w (at-eight p x y) = let z : _≡_ {A = ℕ} 0 1 = (cc) in absurd (omega arith)
-    shown-by e f m u w (at-nine x a y z) = absurd (w a (y .unfounded))
+    shown-by e f m u w (at-nine x c y z) = absurd (w c (y .unfounded))
     shown-by e f m u w (at-ten x y z) = z .is ∙ ap (showing b) (two-cycle plan₂ k j (s .stated) e f m (z .list) (z .negative))
     shown-by e f m u w (at-end x y t) = absurd (no-two-times plan₂ k j (s .stated) e f m (whole (t .times)) (t .earliest .keeps))
 
   -- accepted
-  accepts : (among 3 cs ≡ true) → ((among 2 cs ≡ false) ⊎ (j ≤ k)) → (n : ℕ) → 32 + 4 * length cs ≡ n → NoneBroken plan₂ → NoneUnfounded plan₂ → Always text cand (Accepts n 0 j cs)
+  accepts : (among 3 cs ≡ true) → ((among 2 cs ≡ false) ⊎ (j ≤ k)) → (n : ℕ) → 32 + 4 * length cs ≡ n → NoneBroken plan₂ → NoneUnfounded plan₂ → Always a (Accepts n 0 j cs)
   accepts holds fits n long u f b r h g i =
-      accepted-by b r h g holds fits n long i u f (ending text cand b plan₂ r (reads text cand ls (stated k j) cs s c b h g) i)
+      accepted-by b r h g holds fits n long i u f (ending a b plan₂ r (reads a ls (stated k j) cs s c b h g) i)
 
 -- ---- broken rules
 
@@ -148,21 +148,21 @@ external-founded =
     (λ S m. m .facts 2 refl refl, (λ S m. m .rules (single 3) [] (inr (inl refl)) refl refl 3 refl, tt))
 
 -- without atom 1 only 3 is in the least model of P
-p-unfounded : UnfoundedAt (record { lines = linesP 40 5 117 167; atoms = 2 ∷ 3 ∷ [] }) 2
+p-unfounded : UnfoundedAt (ready (linesP 40 5 117 167) (2 ∷ 3 ∷ [])) 2
 unfolding taken headed
 p-unfounded =
     unfounded-first 2 (3 ∷ []) (external (linesP 40 5 117 167)) (linesP 40 5 117 167) (λ n. eqb n 3) (lit≤ tt, tt)
     (model (2 ∷ 3 ∷ []) (external (linesP 40 5 117 167)) (linesP 40 5 117 167) (λ n. eqb n 3) refl refl) refl
 
 -- nothing is in that of the loop
-loop-unfounded : UnfoundedAt (record { lines = linesLoop; atoms = 1 ∷ 2 ∷ [] }) 1
+loop-unfounded : UnfoundedAt (ready linesLoop (1 ∷ 2 ∷ [])) 1
 unfolding taken headed
 loop-unfounded =
     unfounded-first 1 (2 ∷ []) (external linesLoop) linesLoop (λ n. false) (lit≤ tt, tt)
     (model (1 ∷ 2 ∷ []) (external linesLoop) linesLoop (λ n. false) refl refl) refl
 
 -- nor in that of the rule 1 from not 1
-odd-unfounded : UnfoundedAt (record { lines = linesOdd; atoms = 1 ∷ [] }) 1
+odd-unfounded : UnfoundedAt (ready linesOdd (1 ∷ [])) 1
 unfolding taken headed
 odd-unfounded =
     unfounded-first 1 [] (external linesOdd) linesOdd (λ n. false) tt
@@ -170,38 +170,38 @@ odd-unfounded =
 
 -- ---- the cases
 
-q-shows : Always planQ (bytesOf "1 2 3\n") (Shows planQ (bytesOf "1 2 3\n") (2 ∷ 3 ∷ []) (negsuc 4))
+q-shows : Always (asked planQ (bytesOf "1 2 3\n")) (Shows (asked planQ (bytesOf "1 2 3\n")) (2 ∷ 3 ∷ []) (negsuc 4))
 q-shows b r h g i =
     let s = texts .q in
     let c = candidates .one-two-three in
-    let e = ending planQ (bytesOf "1 2 3\n") b _ r (reads planQ (bytesOf "1 2 3\n") _ _ _ s c b h g) i in
+    let e = ending (asked planQ (bytesOf "1 2 3\n")) b _ r (reads (asked planQ (bytesOf "1 2 3\n")) _ _ _ s c b h g) i in
     record {
-      list = shown-by planQ (bytesOf "1 2 3\n") _ 40 45 _ s c b r h g refl refl (lit< tt) (rules .p-1-2-3 40 45 117 168) (founded-1-2-3 40 45 117 168 (external (linesP 40 45 117 168))) e;
-      sums = sums planQ (bytesOf "1 2 3\n") _ 40 45 _ s c b r h g refl refl;
+      list = shown-by (asked planQ (bytesOf "1 2 3\n")) _ 40 45 _ s c b r h g refl refl (lit< tt) (rules .p-1-2-3 40 45 117 168) (founded-1-2-3 40 45 117 168 (external (linesP 40 45 117 168))) e;
+      sums = sums (asked planQ (bytesOf "1 2 3\n")) _ 40 45 _ s c b r h g refl refl;
     }
 
-tight-spares : Always planTight (bytesOf "1 2 3\n") Spares
+tight-spares : Always (asked planTight (bytesOf "1 2 3\n")) Spares
 tight-spares b r h g i =
     let s = texts .tight in
     let c = candidates .one-two-three in
     record {
-      sums = sums planTight (bytesOf "1 2 3\n") _ 5 5 _ s c b r h g refl refl;
-      accepts = accepts planTight (bytesOf "1 2 3\n") _ 5 5 _ s c refl (inr (lit≤ tt)) 44 refl (rules .p-1-2-3 5 5 116 166) (founded-1-2-3 5 5 116 166 (external (linesP 5 5 116 166))) b r h g i;
+      sums = sums (asked planTight (bytesOf "1 2 3\n")) _ 5 5 _ s c b r h g refl refl;
+      accepts = accepts (asked planTight (bytesOf "1 2 3\n")) _ 5 5 _ s c refl (inr (lit≤ tt)) 44 refl (rules .p-1-2-3 5 5 116 166) (founded-1-2-3 5 5 116 166 (external (linesP 5 5 116 166))) b r h g i;
     }
 
 -- the starred cases hold
 pub starred : Starred
 starred = record {
-  p-1-2-3 = accepts planP (bytesOf "1 2 3\n") _ 40 5 _ (texts .p) (candidates .one-two-three) refl (inr (lit≤ tt)) 44 refl (rules .p-1-2-3 40 5 117 167) (founded-1-2-3 40 5 117 167 (external (linesP 40 5 117 167)));
-  p-3 = accepts planP (bytesOf "3\n") _ 40 5 _ (texts .p) (candidates .three) refl (inr (lit≤ tt)) 36 refl (rules .p-3 40 5 117 167) (founded-3 40 5 117 167 (external (linesP 40 5 117 167)));
-  p-1-3 = eight planP (bytesOf "1 3\n") _ _ _ (texts .p) (candidates .one-three) 22 (rules .p-1-3 40 5 117 167);
-  p-empty = eight planP (bytesOf "\n") _ _ _ (texts .p) (candidates .none) 36 (rules .p-empty 40 5 117 167);
-  p-2-3 = nine planP (bytesOf "2 3\n") _ _ _ (texts .p) (candidates .two-three) 2 (rules .p-2-3 40 5 117 167) p-unfounded;
+  p-1-2-3 = accepts (asked planP (bytesOf "1 2 3\n")) _ 40 5 _ (texts .p) (candidates .one-two-three) refl (inr (lit≤ tt)) 44 refl (rules .p-1-2-3 40 5 117 167) (founded-1-2-3 40 5 117 167 (external (linesP 40 5 117 167)));
+  p-3 = accepts (asked planP (bytesOf "3\n")) _ 40 5 _ (texts .p) (candidates .three) refl (inr (lit≤ tt)) 36 refl (rules .p-3 40 5 117 167) (founded-3 40 5 117 167 (external (linesP 40 5 117 167)));
+  p-1-3 = eight (asked planP (bytesOf "1 3\n")) _ _ _ (texts .p) (candidates .one-three) 22 (rules .p-1-3 40 5 117 167);
+  p-empty = eight (asked planP (bytesOf "\n")) _ _ _ (texts .p) (candidates .none) 36 (rules .p-empty 40 5 117 167);
+  p-2-3 = nine (asked planP (bytesOf "2 3\n")) _ _ _ (texts .p) (candidates .two-three) 2 (rules .p-2-3 40 5 117 167) p-unfounded;
   q-1-2-3 = q-shows;
-  q-3 = accepts planQ (bytesOf "3\n") _ 40 45 _ (texts .q) (candidates .three) refl (inl refl) 36 refl (rules .p-3 40 45 117 168) (founded-3 40 45 117 168 (external (linesP 40 45 117 168)));
+  q-3 = accepts (asked planQ (bytesOf "3\n")) _ 40 45 _ (texts .q) (candidates .three) refl (inl refl) 36 refl (rules .p-3 40 45 117 168) (founded-3 40 45 117 168 (external (linesP 40 45 117 168)));
   tight-1-2-3 = tight-spares;
-  external-2-3 = accepts planExternal (bytesOf "2 3\n") _ 40 5 _ (texts .external) (candidates .two-three) refl (inr (lit≤ tt)) 40 refl (rules .external-2-3) external-founded;
-  loop-1-2 = nine planLoop (bytesOf "1 2\n") _ _ _ (texts .loop) (candidates .one-two) 1 (rules .loop-1-2) loop-unfounded;
-  odd-empty = eight planOdd (bytesOf "\n") _ _ _ (texts .odd) (candidates .none) 10 (rules .odd-empty);
-  odd-1 = nine planOdd (bytesOf "1\n") _ _ _ (texts .odd) (candidates .one) 1 (rules .odd-1) odd-unfounded;
+  external-2-3 = accepts (asked planExternal (bytesOf "2 3\n")) _ 40 5 _ (texts .external) (candidates .two-three) refl (inr (lit≤ tt)) 40 refl (rules .external-2-3) external-founded;
+  loop-1-2 = nine (asked planLoop (bytesOf "1 2\n")) _ _ _ (texts .loop) (candidates .one-two) 1 (rules .loop-1-2) loop-unfounded;
+  odd-empty = eight (asked planOdd (bytesOf "\n")) _ _ _ (texts .odd) (candidates .none) 10 (rules .odd-empty);
+  odd-1 = nine (asked planOdd (bytesOf "1\n")) _ _ _ (texts .odd) (candidates .one) 1 (rules .odd-1) odd-unfounded;
 }

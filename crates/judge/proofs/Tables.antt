@@ -25,7 +25,7 @@ use Rattle.timetable.specs.Times.{timeAmong, timeOf}
 use Rattle.timetable.specs.Given.{recordsOf}
 use Rattle.timetable.proofs.Bounds.{from-within}
 use Rattle.timetable.proofs.RoundTrip.{read-table}
-use Rattle.judge.specs.Plan.{Rooms, Ready, readable, InForce}
+use Rattle.judge.specs.Plan.{Asked, Rooms, Ready, readable, InForce}
 use Rattle.judge.specs.Judged.{over, inTime as timely, table}
 use Rattle.judge.proofs.Small.{said-small, bound-low}
 use Rattle.judge.proofs.Readable.{read}
@@ -70,9 +70,9 @@ among-records m (n ∷ ns) u = go (eqb m n) refl (among-records m ns u)
     go true e r = let z : m ≡ n = eqb-true m n e in rw (eq-eqb n m (sym z), e, z)
     go false e r = rw (ne-eqb n m (λ p. eqb-false m n e (sym p)), e) r
 
-module _ (text cand : List ℕ) (b : Rooms) (q : Ready) (e : readable text cand b ≡ got q) where
+module _ (a : Asked) (b : Rooms) (q : Ready) (e : readable a b ≡ got q) where
   lines-small : AllSmall (q .lines)
-  lines-small = let r = read text cand b q e in statements-small text (q .lines) (r .short) (r .lines)
+  lines-small = let r = read a b q e in statements-small (a .text) (q .lines) (r .short) (r .lines)
 
   -- a difference in force is within the bounds
   pub in-force-small : (d : Diff) → InForce q d → SmallDiff d
@@ -99,7 +99,7 @@ module _ (text cand : List ℕ) (b : Rooms) (q : Ready) (e : readable text cand 
         (record {
           names = names-ascend 0 ns u (all .ascending) (all-map (Name (q .lines)) (λ n. n < 1024) name-small ns (all .only)) (all-map (Name (q .lines)) (λ n. 0 ≤ n) (λ n i. omega arith) ns (all .only));
           times = times-within ns u (earliest-small u h);
-          atoms = atoms-ascend 0 (q .atoms) (candidate-ascending cand (q .atoms) (read text cand b q e .atoms));
+          atoms = atoms-ascend 0 (q .atoms) (candidate-ascending (a .cand) (q .atoms) (read a b q e .atoms));
         })
 
     -- the timetable is never 11

@@ -6,7 +6,7 @@ use lib.Dec.{lit≤}
 use lib.IntN.{pos, negℤ}
 use lib.ListN.{length}
 use Rattle.faults.specs.Answer.{got}
-use Rattle.fields.specs.Fields.{byteAt, byte, bytes, upTo, field, allDigits, isNatural, value, natural, nextNatural, negative, integer, nextInteger, literal, atom, nextAtom, nextTerm, nextElement, char, item, items, counted, stringLength, string}
+use Rattle.fields.specs.Fields.{byteAt, byte, bytes, lineEnd, textEnd, upTo, field, allDigits, isNatural, value, natural, nextNatural, negative, integer, nextInteger, literal, atom, nextAtom, nextTerm, nextElement, char, item, items, counted, naturalThen, string}
 use Rattle.aspif.specs.Statements.{positive, negated, single, choice, Statement, rule, numeric, string as stringTerm, compound, element, guarded, Line}
 use Rattle.aspif.specs.Grammar.{lineOf, heads, bodyKind, literals, body, ruleLine, numericLine, stringLine, compoundLine, elementLine, front, guardedLine, theoryType, theoryOf, theoryPart, statementOf, lastLine, lines, noTag, firstLine, plan, statements}
 use Rattle.aspif.specs.Candidate.{atomAbove, ending, ascending, atoms, candidate}
@@ -29,7 +29,7 @@ pub record Candidates : Type 0 where
 
 -- each is computed
 pub candidates : Candidates
-unfolding candidate atoms ascending ending lastLine atomAbove natural field upTo isNatural allDigits value byteAt byte
+unfolding candidate atoms ascending ending lastLine lineEnd textEnd atomAbove natural field upTo isNatural allDigits value byteAt byte
 candidates = record { none = refl; one = refl; three = refl; one-two = refl; one-three = refl; two-three = refl; one-two-three = refl }
 
 -- ---- texts
@@ -121,7 +121,7 @@ pub record Texts : Type 0 where
 
 -- each is computed from its bytes
 pub texts : Texts
-unfolding planP planQ planTight planExternal planLoop planOdd byteAt byte bytes upTo field allDigits isNatural value natural nextNatural negative integer nextInteger literal atom nextAtom nextTerm nextElement char item items counted stringLength string lineOf heads bodyKind literals body ruleLine numericLine stringLine compoundLine elementLine front guardedLine theoryType theoryOf theoryPart statementOf lastLine lines noTag firstLine plan statements
+unfolding planP planQ planTight planExternal planLoop planOdd byteAt byte bytes lineEnd textEnd upTo field allDigits isNatural value natural nextNatural negative integer nextInteger literal atom nextAtom nextTerm nextElement char item items counted naturalThen string lineOf heads bodyKind literals body ruleLine numericLine stringLine compoundLine elementLine front guardedLine theoryType theoryOf theoryPart statementOf lastLine lines noTag firstLine plan statements
 texts = record {
   p = record { short = lit≤ tt; lines = refl; stated = differences-P 40 5 117 167 };
   q = record { short = lit≤ tt; lines = refl; stated = differences-P 40 45 117 168 };

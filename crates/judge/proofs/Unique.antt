@@ -7,6 +7,7 @@ use mathlib.Core.Logic.{_⊎_, inl, inr, ⊎-elim}
 use native.Mathlib.Omega.{arith}
 use native.Mathlib.Decide.{decLt}
 use lib.IntN.{ℤ}
+use denote.Ref.{RefT, now}
 use Rattle.faults.specs.Answer.{Answer, got}
 use Rattle.faults.specs.Values.{number}
 use Rattle.faults.specs.declared.Refusal.{Refusal}
@@ -18,9 +19,9 @@ use Rattle.stable.specs.Meaning.{SmallestUnfounded}
 use Rattle.timetable.specs.Times.{asTime, timeOf}
 use Rattle.timetable.specs.declared.Time.{Time}
 use Rattle.timetable.proofs.Answers.{one-time}
-use Rattle.judge.specs.Plan.{Rooms, Ready, holds, readable, InForce}
+use Rattle.judge.specs.Plan.{Asked, Rooms, Ready, holds, readable, InForce}
 use Rattle.judge.specs.Judged.{Judgement, acceptance, refusal, Result, refusing, showing, accepting, Each, NegativeCycle, table, Timed, cyclic, timed, Supported, unfounded, founded, Weighed, broken, whole as sound, Judges, unreadable, ready, Judged}
-use Rattle.judge.specs.Shown.{shown}
+use Rattle.judge.specs.Shown.{IsShown}
 use Rattle.judge.specs.Values.{asVerdict, result}
 use Rattle.judge.specs.declared.Verdict.{Verdict}
 use Rattle.judge.specs.declared.Verdict.the-variants.{Accepted, Refused}
@@ -101,10 +102,10 @@ judges-unique a b r r′ (ready u e f) (ready v g h) =
     go (inl x) = inl x
     go (inr x) = inr (u, e, x)
 
--- two results that `Judged` allows for the same text, candidate and rooms are equal; or both are 10, with a negative cycle of the readable plan each
-pub judged-unique : (text cand : List ℕ) (b : Rooms) (r r′ : Result) → Judged text cand b r → Judged text cand b r′
-    → (r ≡ r′) ⊎ ((q : Ready) × (readable text cand b ≡ got q) × BothTen q b r r′)
-judged-unique text cand b r r′ = judges-unique (readable text cand b) b r r′
+-- two results that `Judged` allows for what was asked and the same rooms are equal; or both are 10, with a negative cycle of the readable plan each
+pub judged-unique : (a : Asked) (b : Rooms) (r r′ : Result) → Judged a b r → Judged a b r′
+    → (r ≡ r′) ⊎ ((q : Ready) × (readable a b ≡ got q) × BothTen q b r r′)
+judged-unique a b r r′ = judges-unique (readable a b) b r r′
 
 -- ---- in the words of the code
 
@@ -128,12 +129,12 @@ pub verdict-unique : (v v′ : Verdict) → asVerdict v ≡ asVerdict v′ → v
 verdict-unique v v′ e = sym (verdict-back v) ∙ ap verdictOf e ∙ verdict-back v′
 
 -- two verdicts and what both rooms hold then, that the contract of `judge` allows for the same input, are equal; or both are 10
-pub judge-unique : (text cand : List ℕ) (b : Rooms) (v v′ : Verdict) (room room′ cycle cycle′ : List ℕ)
-    → Judged text cand b (result v room cycle) → Judged text cand b (result v′ room′ cycle′)
-    → ((v ≡ v′) × (room ≡ room′) × (cycle ≡ cycle′)) ⊎ ((q : Ready) × (readable text cand b ≡ got q) × BothTen q b (result v room cycle) (result v′ room′ cycle′))
-judge-unique text cand b v v′ room room′ cycle cycle′ h g =
+pub judge-unique : (a : Asked) (b : Rooms) (v v′ : Verdict) (room room′ cycle cycle′ : List ℕ)
+    → Judged a b (result v room cycle) → Judged a b (result v′ room′ cycle′)
+    → ((v ≡ v′) × (room ≡ room′) × (cycle ≡ cycle′)) ⊎ ((q : Ready) × (readable a b ≡ got q) × BothTen q b (result v room cycle) (result v′ room′ cycle′))
+judge-unique a b v v′ room room′ cycle cycle′ h g =
     ⊎-elim (λ e. inl (verdict-unique v v′ (ap (λ (r : Result). r .verdict) e), ap (λ (r : Result). r .rooms .room) e, ap (λ (r : Result). r .rooms .cycle) e)) (λ e. inr e)
-    (judged-unique text cand b (result v room cycle) (result v′ room′ cycle′) h g)
+    (judged-unique a b (result v room cycle) (result v′ room′ cycle′) h g)
 
 -- ---- the other two entry points
 
@@ -142,5 +143,5 @@ pub time-unique : (s : List ℕ) (n : ℕ) (t t′ : Time) → asTime t ≡ time
 time-unique = one-time
 
 -- two parts that the contract of `show` allows for the same refusal, text and candidate are equal
-pub show-unique : (k place : ℕ) (text cand part part′ : List ℕ) → part ≡ shown k place text cand → part′ ≡ shown k place text cand → part ≡ part′
-show-unique k place text cand part part′ e f = e ∙ sym f
+pub show-unique : (r r′ text cand : RefT (List ℕ)) (k place : ℕ) → IsShown r text cand k place → IsShown r′ text cand k place → now r ≡ now r′
+show-unique r r′ text cand k place h g = h .bytes ∙ sym (g .bytes)

@@ -13,7 +13,7 @@ use Rattle.stable.specs.Meaning.{unbroken, brokenAt, firstBroken, Founded, Smal
 use Rattle.timetable.specs.Table.{tableOf}
 use Rattle.timetable.specs.Times.{timeOf}
 use Rattle.timetable.specs.Given.{recordsOf}
-use Rattle.judge.specs.Plan.{Rooms, Ready, holds, readable, InForce}
+use Rattle.judge.specs.Plan.{Asked, Rooms, Ready, holds, readable, InForce}
 use Rattle.judge.specs.Judged.{acceptance, Result, refusing, showing, accepting, NegativeCycle, Judged}
 
 -- ---- of a readable plan with its candidate
@@ -81,6 +81,6 @@ pub record Demanded (q : Ready) (b : Rooms) (r : Result) : Type 0 where
   pub smallest-unfounded : (a : ℕ) → (r ≡ refusing b 9 a) ↔ (NoneBroken q × UnfoundedAt q a)
   pub negative-cycle : ShowsCycle q b r ↔ (NoneBroken q × NoneUnfounded q × (Timeable q → ⊥))
 
--- for every text and candidate that are readable, all rooms, and every result
+-- for whatever was asked that is readable, all rooms, and every result
 abbrev pub Demand2 : Type 0
-Demand2 = (text cand : List ℕ) (b : Rooms) (q : Ready) (r : Result) → readable text cand b ≡ got q → Judged text cand b r → Demanded q b r
+Demand2 = (a : Asked) (b : Rooms) (q : Ready) (r : Result) → readable a b ≡ got q → Judged a b r → Demanded q b r

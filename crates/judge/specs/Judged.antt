@@ -15,7 +15,7 @@ use Rattle.timetable.specs.Given.{recordsOf}
 use Rattle.terms.specs.Says.{Names}
 use Rattle.terms.specs.Terms.{external}
 use Rattle.stable.specs.Meaning.{unbroken, brokenAt, firstBroken, Founded, SmallestUnfounded}
-use Rattle.judge.specs.Plan.{Rooms, Ready, holds, readable, Held, InForce}
+use Rattle.judge.specs.Plan.{Asked, Rooms, Ready, holds, readable, Held, InForce}
 
 -- a verdict by the paper's numbers: accepted with the timetable's length, or refused with number and place
 pub data Judgement : Type 0 where
@@ -98,6 +98,6 @@ pub data Judges (a : Answer Ready) (b : Rooms) (r : Result) : Type 0 where
   unreadable : (k p : ℕ) → a ≡ refused k p → r ≡ refusing b k p → Judges a b r
   ready : (q : Ready) → a ≡ got q → Weighed q b r → Judges a b r
 
--- what the judge does with a text, a candidate and both rooms
-abbrev pub Judged : (text cand : List ℕ) → Rooms → Result → Type 0
-Judged text cand b r = Judges (readable text cand b) b r
+-- what the judge does with what was asked and both rooms
+abbrev pub Judged : Asked → Rooms → Result → Type 0
+Judged a b r = Judges (readable a b) b r

@@ -4,8 +4,6 @@ pub mod Judged
 pub mod Shown
 pub mod Values
 pub mod Demand2
-pub mod Later
-pub mod Demand3
 pub mod Demand1
 pub mod Bounds
 pub mod Fronts

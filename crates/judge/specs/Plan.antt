@@ -5,7 +5,7 @@ use mathlib.Core.Bool.{Bool, true}
 use mathlib.Core.List.{List}
 use lib.Dec.{ltb}
 use lib.ListN.{length}
-use Rattle.faults.specs.Answer.{Answer, refused, bind, mapped, pick}
+use Rattle.faults.specs.Answer.{Answer, got, refused, bind, mapped, pick}
 use Rattle.faults.specs.Marks.{among}
 use Rattle.aspif.specs.Statements.{Line}
 use Rattle.aspif.specs.Grammar.{statements}
@@ -13,6 +13,11 @@ use Rattle.aspif.specs.Candidate.{candidate}
 use Rattle.diffs.specs.Diff.{Diff}
 use Rattle.terms.specs.Says.{Says}
 use Rattle.terms.specs.Terms.{Stated, differences}
+
+-- what was asked: a plan text and a candidate
+pub record Asked : Type 0 where
+  pub text : List ℕ
+  pub cand : List ℕ
 
 -- what was lent: the timetable room and the cycle room
 pub record Rooms : Type 0 where
@@ -24,25 +29,38 @@ pub record Ready : Type 0 where
   pub lines : List Line
   pub atoms : List ℕ
 
+abbrev pub asked : (text cand : List ℕ) → Asked
+asked text cand = record { text = text; cand = cand }
+
+abbrev pub ready : List Line → (atoms : List ℕ) → Ready
+ready ls cs = record { lines = ls; atoms = cs }
+
 -- the candidate as a set
 abbrev pub holds : Ready → ℕ → Bool
 holds q a = among a (q .atoms)
 
--- 3 to 6
-unfoldable pub planOf : List ℕ → Answer (List Line)
-planOf text = bind (statements text) (λ ls. mapped (λ (ds : List Stated). ls) (differences ls))
+-- ---- 1 to 7, in three parts
 
--- 3 to 7
-unfoldable pub pair : (text cand : List ℕ) → Answer Ready
-pair text cand = bind (planOf text) (λ ls. mapped (λ (cs : List ℕ). record { lines = ls; atoms = cs }) (candidate cand))
-
--- 1 to 7: a room too short, the timetable room first; a text over 60,000 bytes; then the text, then the candidate
-unfoldable pub readable : (text cand : List ℕ) → Rooms → Answer Ready
-readable text cand b =
+-- what was lent, 1: a room too short, the timetable room first
+unfoldable pub lent : Rooms → Answer Unit
+lent b =
     pick (ltb (length (b .room)) 24592) (refused 1 24592)
     (pick (ltb (length (b .cycle)) 1024) (refused 1 1024)
-    (pick (ltb 60000 (length text)) (refused 2 60000)
-    (pair text cand)))
+    (got tt))
+
+-- the text alone, 2 to 6: over 60,000 bytes; what it says; its terms
+unfoldable pub legible : (text : List ℕ) → Answer (List Line)
+legible text =
+    pick (ltb 60000 (length text)) (refused 2 60000)
+    (bind (statements text) (λ ls. mapped (λ (ds : List Stated). ls) (differences ls)))
+
+-- the candidate, 7: these lines with its atoms
+unfoldable pub pair : List Line → (cand : List ℕ) → Answer Ready
+pair ls cand = mapped (ready ls) (candidate cand)
+
+-- one after the other
+unfoldable pub readable : Asked → Rooms → Answer Ready
+readable a b = bind (lent b) (λ (u : Unit {0}). bind (legible (a .text)) (λ ls. pair ls (a .cand)))
 
 -- ---- the rules that hold
 

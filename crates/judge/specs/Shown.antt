@@ -1,9 +1,11 @@
 -- Showing a fault: document 01, the end of 'Verdicts'. Assumes nothing.
-use Prim.Native.Nat.{ℕ}
-use mathlib.Core.Bool.{Bool, _||_}
+use Prim.Native.Nat.{ℕ, _+_, min}
+use mathlib.Core.Path.{_≡_}
+use mathlib.Core.Bool.{Bool, true, _||_}
 use mathlib.Core.List.{List, []}
 use lib.Dec.{eqb}
-use lib.ListN.{drop}
+use lib.ListN.{length, drop}
+use denote.Ref.{RefT, ptr, now}
 use Rattle.faults.specs.Answer.{pick}
 use Rattle.fields.specs.Fields.{upTo}
 
@@ -22,3 +24,15 @@ inText k = eqb k 3 || (eqb k 4 || (eqb k 5 || (eqb k 6 || eqb k 8)))
 -- the part that is shown: of the text, for 7 of the candidate, for every other number nothing
 unfoldable pub shown : (number place : ℕ) → (text cand : List ℕ) → List ℕ
 shown k place text cand = pick (inText k) (partFrom text place) (pick (eqb k 7) (partFrom cand place) [])
+
+-- r is the part of the slice s from the place on: these bytes, in the memory of s itself, at the place or at the end if that comes first
+pub record Part (r s : RefT (List ℕ)) (place : ℕ) : Type 0 where
+  pub bytes : now r ≡ partFrom (now s) place
+  pub block : ptr r .0 ≡ ptr s .0
+  pub offset : ptr r .1 ≡ ptr s .1 + min place (length (now s))
+
+-- what `show` gives: the bytes that are shown, as a part of the text, for 7 of the candidate
+pub record IsShown (r text cand : RefT (List ℕ)) (number place : ℕ) : Type 0 where
+  pub bytes : now r ≡ shown number place (now text) (now cand)
+  pub of-text : inText number ≡ true → Part r text place
+  pub of-candidate : eqb number 7 ≡ true → Part r cand place

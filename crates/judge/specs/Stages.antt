@@ -8,13 +8,13 @@ use lib.ListN.{length, getD}
 use Rattle.faults.specs.Answer.{got, pick}
 use Rattle.faults.specs.Marks.{isMarked, markedFrom}
 use Rattle.aspif.specs.Statements.{Line}
-use Rattle.aspif.specs.Words.{Between, AllSmall, linesOf, Taped}
+use Rattle.aspif.specs.Words.{Between, AllSmall}
 use Rattle.aspif.specs.Candidate.{atomsOf}
 use Rattle.diffs.specs.Diff.{Diff, Earliest, All, Distinct}
 use Rattle.terms.specs.Terms.{Stated, differences, SmallDiff}
 use Rattle.terms.specs.Tables.{firsts, heldAt}
 use Rattle.terms.specs.Values.{Roomy}
-use Rattle.judge.specs.Plan.{Rooms, Ready}
+use Rattle.judge.specs.Plan.{Rooms, Ready, ready}
 use Rattle.judge.specs.Judged.{Result, refusal, accepting, table}
 use Rattle.diffs.specs.Answer as diffs
 use Rattle.timetable.specs.Given as timetable
@@ -29,12 +29,6 @@ pub record Stating (ls : List Line) (m : ℕ) (atoms xs ys : List ℕ) (ks : Lis
   pub stated : differences ls ≡ got (stated m atoms xs ys ks)
   pub roomy : Roomy atoms xs ys ks
 
--- n lines stand on a tape, and the first m places of four slices have the differences that they state
-pub record Planned (tape : List ℕ) (n : ℕ) (atoms xs ys : List ℕ) (ks : List ℤ) (m : ℕ) : Type 0 where
-  pub taped : Taped tape n
-  pub short : length tape ≤ 60000
-  pub stating : Stating (linesOf tape n) m atoms xs ys ks
-
 -- a bitmap of the atoms of a candidate
 pub record Candidate (x : List ℕ) : Type 0 where
   pub places : length x ≡ 4097
@@ -45,10 +39,7 @@ pub record Sized (room cycle : List ℕ) : Type 0 where
   pub bytes : 24592 ≤ length room
   pub places : 1024 ≤ length cycle
 
--- the plan of lines and of a candidate's atoms, and of a candidate's bitmap
-abbrev pub ready : List Line → (atoms : List ℕ) → Ready
-ready ls cs = record { lines = ls; atoms = cs }
-
+-- the plan of lines and of a candidate's bitmap
 abbrev pub readyAt : List Line → (x : List ℕ) → Ready
 readyAt ls x = ready ls (atomsOf x)
 
@@ -69,13 +60,6 @@ pub record Filled (m : ℕ) (atoms xs ys : List ℕ) (ks : List ℤ) : Type 0 wh
 unfoldable pub inForce : (x : List ℕ) → List Stated → List Stated
 inForce x [] = []
 inForce x (s ∷ ds) = pick (isMarked x (s .atom)) (s ∷ inForce x ds) (inForce x ds)
-
--- four slices of 4,097 places
-pub record Places (labels xs ys : List ℕ) (ks : List ℤ) : Type 0 where
-  pub for-labels : length labels ≡ 4097
-  pub for-xs : length xs ≡ 4097
-  pub for-ys : length ys ≡ 4097
-  pub for-ks : length ks ≡ 4097
 
 -- the first n places of four slices have the differences ds, at most m
 pub record Gathered (m : ℕ) (ds : List Stated) (n : ℕ) (labels xs ys : List ℕ) (ks : List ℤ) : Type 0 where

@@ -1,12 +1,11 @@
 // Showing a fault: a part of the text or of the candidate, as it was lent.
 ghost use mathlib.Core.Path.{_≡_};
-ghost use Prim.Native.Nat.{_+_};
 ghost use lib.Dec.{eqb};
-ghost use lib.ListN.{length};
 ghost use Rattle.faults.specs.Values.{number};
-ghost use Rattle.judge.specs.Shown.{partFrom, inText, shown};
+ghost use Rattle.judge.specs.Shown.{partFrom, inText, Part, IsShown};
 use faults::Kind;
 use faults::Refusal;
+use fields::digits::run_end;
 
 // Whether the place of a refusal is in the text.
 fn in_text(kind: Kind) -> bool
@@ -28,35 +27,21 @@ fn in_candidate(kind: Kind) -> bool
     }
 }
 
-// Where the line ends: the first byte 10 at or after a place, or the end.
-fn line_end(s: &[u8], place: usize) -> usize
-    ensures { λ r. ⌜ r ≡ place + length (partFrom (now (s .entry)) place) ⌝ }
-{
-    let mut i = place;
-    while i < s.len() {
-        if s[i] == 10 {
-            return i;
-        }
-        i += 1;
-    }
-    i
-}
-
 // The part of a line from a place on; nothing from a place beyond the end.
 fn part_from(s: &[u8], place: usize) -> &[u8]
-    ensures { λ r. ⌜ now r ≡ partFrom (now (s .entry)) place ⌝ }
+    ensures { λ r. ⌜ Part r (s .entry) place ⌝ }
 {
     let n = s.len();
     if n <= place {
-        return &s[n..];
+        return &s[n..n];
     }
-    let end = line_end(s, place);
+    let end = run_end(s, place, 10, 10);
     &s[place..end]
 }
 
 // The faulty part of the text or of the candidate; nothing for a refusal that has no place in them.
 pub fn show<'a>(text: &'a [u8], cand: &'a [u8], refusal: Refusal) -> &'a [u8]
-    ensures { λ r. ⌜ now r ≡ shown (number (refusal .kind)) (refusal .place) (now (text .entry)) (now (cand .entry)) ⌝ }
+    ensures { λ r. ⌜ IsShown r (text .entry) (cand .entry) (number (refusal .kind)) (refusal .place) ⌝ }
 {
     let kind = refusal.kind;
     let place = refusal.place;

@@ -9,7 +9,7 @@ ghost use Rattle.diffs.specs.Answer.{diffAt};
 ghost use Rattle.timetable.specs.Given.{timeAt};
 ghost use Rattle.judge.specs.Judged.{inTime, table, accepting, Timed};
 ghost use Rattle.judge.specs.Values.{asPassed, rooms, result};
-ghost use Rattle.judge.specs.Stages.{stated, Stating, Candidate, Sized, readyAt, Filled, inForce, Places, Gathered};
+ghost use Rattle.judge.specs.Stages.{stated, Stating, Candidate, Sized, readyAt, Filled, inForce, Gathered};
 ghost use Rattle.judge.specs.Stages.{Writable, Labelled, Settled};
 use crate::Verdict;
 use diffs::Outcome;
@@ -21,22 +21,17 @@ use terms::marks::mark_names;
 // The latest time that may be written.
 const LATEST: u64 = 2147483647;
 
-// How many of the first m differences have an atom in x: these stand in the first places of four rooms.
+// How many of the first m differences have an atom in x: these are moved into the first places.
 fn gather(
-    atoms: &[u32],
-    xs: &[u32],
-    ys: &[u32],
-    ks: &[i32],
+    atoms: &mut [u32],
+    xs: &mut [u32],
+    ys: &mut [u32],
+    ks: &mut [i32],
     m: usize,
     x: &[u8],
-    labels: &mut [u32],
-    gxs: &mut [u32],
-    gys: &mut [u32],
-    gks: &mut [i32],
 ) -> usize
     requires { ⌜ Filled m (now atoms) (now xs) (now ys) (now ks) × Candidate (now x) ⌝ }
-    requires { ⌜ Places (now labels) (now gxs) (now gys) (now gks) ⌝ }
-    ensures { λ r. ⌜ Gathered m (inForce (now (x .entry)) (stated m (now (atoms .entry)) (now (xs .entry)) (now (ys .entry)) (now (ks .entry)))) r (now (labels .exit)) (now (gxs .exit)) (now (gys .exit)) (now (gks .exit)) ⌝ }
+    ensures { λ r. ⌜ Gathered m (inForce (now (x .entry)) (stated m (now (atoms .entry)) (now (xs .entry)) (now (ys .entry)) (now (ks .entry)))) r (now (atoms .exit)) (now (xs .exit)) (now (ys .exit)) (now (ks .exit)) ⌝ }
 {
     let mut n = 0;
     let mut i = 0;
@@ -48,10 +43,13 @@ fn gather(
         if x[at] != 1 {
             continue;
         }
-        labels[n] = a;
-        gxs[n] = xs[here];
-        gys[n] = ys[here];
-        gks[n] = ks[here];
+        let u = xs[here];
+        let v = ys[here];
+        let k = ks[here];
+        atoms[n] = a;
+        xs[n] = u;
+        ys[n] = v;
+        ks[n] = k;
         n += 1;
     }
     n
@@ -122,10 +120,10 @@ fn settled(
 
 // 10, 11 or the timetable: of the first m differences, those with an atom in x are in force.
 pub fn timed(
-    atoms: &[u32],
-    xs: &[u32],
-    ys: &[u32],
-    ks: &[i32],
+    atoms: &mut [u32],
+    xs: &mut [u32],
+    ys: &mut [u32],
+    ks: &mut [i32],
     m: usize,
     x: &[u8],
     room: &mut [u8],
@@ -137,17 +135,12 @@ pub fn timed(
 {
     let mut names = [0u8; 1024];
     mark_names(xs, ys, m, &mut names);
-    // The labels, the sides and the bounds of those in force.
-    let mut ls = [0u32; 4097];
-    let mut us = [0u32; 4097];
-    let mut vs = [0u32; 4097];
-    let mut ws = [0i32; 4097];
-    let n = gather(atoms, xs, ys, ks, m, x, &mut ls, &mut us, &mut vs, &mut ws);
+    let n = gather(atoms, xs, ys, ks, m, x);
     settled(
-        &ls[..n],
-        &us[..n],
-        &vs[..n],
-        &ws[..n],
+        &atoms[..n],
+        &xs[..n],
+        &ys[..n],
+        &ks[..n],
         &names,
         x,
         room,

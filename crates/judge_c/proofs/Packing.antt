@@ -13,7 +13,7 @@ use Rattle.faults.specs.declared.Kind.{Kind}
 use Rattle.faults.specs.declared.Kind.the-variants.{Grammar, Carried, Bounds, Terms, Candidate, Broken}
 use Rattle.timetable.specs.Table.{Record, isTable, shown as shownIn}
 use Rattle.timetable.specs.Times.{timeAmong, timeOf}
-use Rattle.judge.specs.Plan.{Rooms}
+use Rattle.judge.specs.Plan.{Asked, Rooms}
 use Rattle.judge.specs.Judged.{acceptance, refusal, Judged}
 use Rattle.judge.specs.Shown.{inText, shown}
 use Rattle.judge.proofs.Parts.{shown-none}
@@ -21,24 +21,24 @@ use Rattle.judge.proofs.Places.{places-bounded}
 use Rattle.judge_c.specs.Packed.{packedTime, packedPart, Answers}
 
 -- an acceptance, with the timetable's length
-pub accepts : {text cand : List ℕ} {b a : Rooms} {n r : ℕ}
-    → Judged text cand b (record { verdict = acceptance n; rooms = a })
-    → r ≡ 0 * 4294967296 + n → Answers text cand b a r
+pub accepts : {i : Asked} {b a : Rooms} {n r : ℕ}
+    → Judged i b (record { verdict = acceptance n; rooms = a })
+    → r ≡ 0 * 4294967296 + n → Answers i b a r
 accepts {n = n} j e = record { judgement = acceptance n; judged = j; value = omega arith }
 
 -- a refusal, with its number and place
-pub refuses : {text cand : List ℕ} {b a : Rooms} {k p r : ℕ}
-    → Judged text cand b (record { verdict = refusal k p; rooms = a })
-    → r ≡ k * 4294967296 + p → Answers text cand b a r
+pub refuses : {i : Asked} {b a : Rooms} {k p r : ℕ}
+    → Judged i b (record { verdict = refusal k p; rooms = a })
+    → r ≡ k * 4294967296 + p → Answers i b a r
 refuses {k = k} {p = p} j e = record { judgement = refusal k p; judged = j; value = e }
 
 -- a timetable's length fits the lower half
-pub length-fits : (text cand : List ℕ) {b a : Rooms} {n : ℕ} → Judged text cand b (record { verdict = acceptance n; rooms = a }) → n < 4294967296
-length-fits text cand {b} j = let h = places-bounded text cand b _ j in omega arith
+pub length-fits : (i : Asked) {b a : Rooms} {n : ℕ} → Judged i b (record { verdict = acceptance n; rooms = a }) → n < 4294967296
+length-fits i {b} j = let h = places-bounded i b _ j in omega arith
 
 -- a place fits the lower half
-pub place-fits : (text cand : List ℕ) {b a : Rooms} {k p : ℕ} → Judged text cand b (record { verdict = refusal k p; rooms = a }) → p < 4294967296
-place-fits text cand {b} j = let h = places-bounded text cand b _ j in omega arith
+pub place-fits : (i : Asked) {b a : Rooms} {k p : ℕ} → Judged i b (record { verdict = refusal k p; rooms = a }) → p < 4294967296
+place-fits i {b} j = let h = places-bounded i b _ j in omega arith
 
 -- a time
 pub times : (a : Answer ℕ) (t r : ℕ) → got t ≡ a → r ≡ 0 * 4294967296 + t → r ≡ packedTime a

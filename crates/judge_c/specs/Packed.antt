@@ -1,12 +1,11 @@
 -- An answer as one number: one part above 2 ^ 32, the other below. Assumes nothing.
 use Prim.Native.Nat.{ℕ, _+_, _*_, _%_}
 use mathlib.Core.Path.{_≡_}
-use mathlib.Core.List.{List}
 use lib.Dec.{eqb}
 use Rattle.faults.specs.Answer.{Answer, got, refused, pick}
 use Rattle.faults.specs.Values.{number}
 use Rattle.faults.specs.declared.Kind.{Kind}
-use Rattle.judge.specs.Plan.{Rooms}
+use Rattle.judge.specs.Plan.{Asked, Rooms}
 use Rattle.judge.specs.Judged.{Judgement, acceptance, refusal, Judged}
 use Rattle.judge_c.specs.declared.Named.{Named}
 use Rattle.judge_c.specs.declared.Named.the-variants.{Is, Nothing}
@@ -27,10 +26,10 @@ packedTime (refused k p) = k * 4294967296 + p
 abbrev pub packedPart : (start length : ℕ) → ℕ
 packedPart p n = pick (eqb n 0) 0 (p * 4294967296 + n % 4294967296)
 
--- r is a judgement, packed, that the judge may give of a text and a candidate, with both rooms as they are after it
-pub record Answers (text cand : List ℕ) (before after : Rooms) (r : ℕ) : Type 0 where
+-- r is a judgement, packed, that the judge may give of what was asked, with both rooms as they are after it
+pub record Answers (a : Asked) (before after : Rooms) (r : ℕ) : Type 0 where
   pub judgement : Judgement
-  pub judged : Judged text cand before (record { verdict = judgement; rooms = after })
+  pub judged : Judged a before (record { verdict = judgement; rooms = after })
   pub value : r ≡ packed judgement
 
 -- the kind whose number n is, or no kind has it

@@ -4,6 +4,7 @@ ghost use Prim.Native.Nat.{_+_, _*_, _<_};
 ghost use lib.ListN.{length};
 ghost use Rattle.faults.specs.Values.{number};
 ghost use Rattle.timetable.specs.Times.{timeOf};
+ghost use Rattle.judge.specs.Plan.{asked};
 ghost use Rattle.judge.specs.Shown.{shown};
 ghost use Rattle.judge.specs.Values.{rooms};
 ghost use Rattle.judge_c.specs.Packed.{packedTime, packedPart, Answers, Found};
@@ -74,7 +75,7 @@ fn shown_length<'a>(text: &'a [u8], cand: &'a [u8], number: u32, place: u32) -> 
 // The verdict: 0 above and the timetable's length below, or the refusal's number above and its place below.
 #[no_mangle]
 pub extern "C" fn plan_judge(text: &[u8], cand: &[u8], room: &mut [u8], cycle: &mut [u32]) -> u64
-    ensures { λ r. ⌜ Answers (now (text .entry)) (now (cand .entry)) (rooms (now (room .entry)) (now (cycle .entry))) (rooms (now (room .exit)) (now (cycle .exit))) r ⌝ }
+    ensures { λ r. ⌜ Answers (asked (now (text .entry)) (now (cand .entry))) (rooms (now (room .entry)) (now (cycle .entry))) (rooms (now (room .exit)) (now (cycle .exit))) r ⌝ }
 {
     let a = judge::judge(text, cand, room, cycle);
     match a {

@@ -13,7 +13,7 @@ use Rattle.timetable.specs.Table.{Record, Content, tableOf, nameCount, atomCoun
 use Rattle.timetable.proofs.Bounds.{names-few}
 use Rattle.timetable.proofs.Content.{records-length, front-back}
 use Rattle.timetable.proofs.Writing.{length-table}
-use Rattle.judge.specs.Plan.{Rooms}
+use Rattle.judge.specs.Plan.{Asked, Rooms}
 use Rattle.judge.specs.Judged.{refusal, Result, accepting, Judged, cyclic, timed, unfounded, founded, broken, whole, unreadable, ready}
 use Rattle.judge.proofs.Judgements.{verdicts}
 use Rattle.judge.proofs.Tables.{content, content-within, table-got}
@@ -78,9 +78,9 @@ module _ (c : Content) (h : within c ≡ true) (rest : List ℕ) where
 -- ---- a judged result
 
 -- what is printed of it can be written into 65,536 bytes
-pub judged-fits : (text cand : List ℕ) (b : Rooms) (r : Result) (out : List ℕ) → Judged text cand b r → length (r .rooms .cycle) ≤ 1024 → 65536 ≤ length out
+pub judged-fits : (a : Asked) (b : Rooms) (r : Result) (out : List ℕ) → Judged a b r → length (r .rooms .cycle) ≤ 1024 → 65536 ≤ length out
     → Reportable (r .verdict) (r .rooms .room) × Fits (lines (r .verdict) (r .rooms)) out 0
-judged-fits text cand b r out j h n = go j
+judged-fits a b r out j h n = go j
   where
     of-refusal : (k p : ℕ) → r .verdict ≡ refusal k p → Reportable (r .verdict) (r .rooms .room) × Fits (lines (r .verdict) (r .rooms)) out 0
     of-refusal k p e = rw e (tt, record { fits = omega (arith, n, refused-few k p (r .rooms .cycle) h) })
@@ -90,17 +90,17 @@ judged-fits text cand b r out j h n = go j
         let rest = drop (length (tableOf c)) (b .room) in
         rw e (names-within c w rest, record { fits = omega (arith, n, accepted-few (tableOf c ++ rest) (omega (arith, front-back c w rest .names, names-few c w))) })
 
-    go : Judged text cand b r → Reportable (r .verdict) (r .rooms .room) × Fits (lines (r .verdict) (r .rooms)) out 0
+    go : Judged a b r → Reportable (r .verdict) (r .rooms .room) × Fits (lines (r .verdict) (r .rooms)) out 0
     go (unreadable k p e f) = of-refusal k p (verdicts f)
     go (ready q e (broken p f g)) = of-refusal 8 p (verdicts g)
-    go (ready q e (whole f (unfounded a g i))) = of-refusal 9 a (verdicts i)
+    go (ready q e (whole f (unfounded c g i))) = of-refusal 9 c (verdicts i)
     go (ready q e (whole f (founded g (cyclic cs i l)))) = of-refusal 10 (length cs) (verdicts l)
-    go (ready q e (whole f (founded g (timed u i ns m l)))) = of-table (content ns u (q .atoms)) (content-within text cand b q e u i ns m) (rw (table-got text cand b q e u i ns m) at l)
+    go (ready q e (whole f (founded g (timed u i ns m l)))) = of-table (content ns u (q .atoms)) (content-within a b q e u i ns m) (rw (table-got a b q e u i ns m) at l)
 
 -- written from the first place on, it stands before what was there
-pub written-whole : {text cand : List ℕ} {r : Result} {a b : List ℕ} {n : ℕ} → Judged text cand (record { room = replicate 24592 0; cycle = replicate 1024 0 }) r
-    → Put (lines (r .verdict) (r .rooms)) a 0 b n → Fits (lines (r .verdict) (r .rooms)) a 0 → Reported text cand a b n
-written-whole {text} {cand} {r} {a} {b} {n} j s f = record {
+pub written-whole : {i : Asked} {r : Result} {a b : List ℕ} {n : ℕ} → Judged i (record { room = replicate 24592 0; cycle = replicate 1024 0 }) r
+    → Put (lines (r .verdict) (r .rooms)) a 0 b n → Fits (lines (r .verdict) (r .rooms)) a 0 → Reported i a b n
+written-whole {i} {r} {a} {b} {n} j s f = record {
   result = r;
   judged = j;
   length-is = s .ends ∙ zero-add _;

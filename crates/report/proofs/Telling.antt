@@ -8,7 +8,7 @@ use Rattle.faults.specs.Answer.{got}
 use Rattle.timetable.specs.Given.{recordsOf}
 use Rattle.timetable.specs.Table.{tableOf}
 use Rattle.timetable.proofs.Content.{front-back}
-use Rattle.judge.specs.Plan.{Rooms, Ready, readable}
+use Rattle.judge.specs.Plan.{Asked, Rooms, Ready, readable}
 use Rattle.judge.specs.Judged.{acceptance, Result, Judged, cyclic, timed, unfounded, founded, broken, whole, unreadable, ready}
 use Rattle.judge.specs.Demand2.{ShowsCycle}
 use Rattle.judge.proofs.Judgements.{verdicts, not-accepted}
@@ -26,17 +26,17 @@ cycle-lines : (q : Ready) (b : Rooms) (r : Result) (c : ShowsCycle q b r) → li
 unfolding refusedLines
 cycle-lines q b r c = rw (c .is, take-append-seam (c .list) (drop (length (c .list)) (b .cycle)))
 
-module _ (text cand : List ℕ) (b : Rooms) (r : Result) where
+module _ (a : Asked) (b : Rooms) (r : Result) where
   -- the lines of an acceptance
-  times : Judged text cand b r → (n : ℕ) → r .verdict ≡ acceptance n → (q : Ready) × (readable text cand b ≡ got q) × Times q (lines (r .verdict) (r .rooms))
+  times : Judged a b r → (n : ℕ) → r .verdict ≡ acceptance n → (q : Ready) × (readable a b ≡ got q) × Times q (lines (r .verdict) (r .rooms))
   unfolding acceptedLines
   times (unreadable k p e f) n v = absurd (not-accepted (sym v ∙ verdicts f))
   times (ready q e (broken p f g)) n v = absurd (not-accepted (sym v ∙ verdicts g))
-  times (ready q e (whole f (unfounded a g h))) n v = absurd (not-accepted (sym v ∙ verdicts h))
+  times (ready q e (whole f (unfounded c g h))) n v = absurd (not-accepted (sym v ∙ verdicts h))
   times (ready q e (whole f (founded g (cyclic cs h i)))) n v = absurd (not-accepted (sym v ∙ verdicts i))
   times (ready q e (whole f (founded g (timed u h ns all j)))) n v =
       let c = content ns u (q .atoms) in
-      let o = front-back c (content-within text cand b q e u h ns all) (drop (length (tableOf c)) (b .room)) in (
+      let o = front-back c (content-within a b q e u h ns all) (drop (length (tableOf c)) (b .room)) in (
         q,
         e,
         record {
@@ -44,10 +44,10 @@ module _ (text cand : List ℕ) (b : Rooms) (r : Result) where
           all = all;
           time = u;
           earliest = h;
-          is = rw (j, table-got text cand b q e u h ns all, o .records, o .names, o .atoms, records-many ns u);
+          is = rw (j, table-got a b q e u h ns all, o .records, o .names, o .atoms, records-many ns u);
         },
       )
 
 -- every result is told
 pub tells : Tells
-tells text cand b r j = record { times = times text cand b r j; cycle = λ q c. cycle-lines q b r c }
+tells a b r j = record { times = times a b r j; cycle = λ q c. cycle-lines q b r c }

@@ -6,7 +6,7 @@ use lib.Dec.{eqb, ltb}
 use lib.ListN.{length, take, replicate}
 use Rattle.faults.specs.Answer.{pick}
 use Rattle.timetable.specs.Table.{Record, nameCount, atomCount, recordsAt}
-use Rattle.judge.specs.Plan.{Rooms}
+use Rattle.judge.specs.Plan.{Asked, Rooms}
 use Rattle.judge.specs.Judged.{Judgement, acceptance, refusal, Result, over, Judged}
 
 -- a number in decimal without leading zeros, to its last k digits
@@ -66,9 +66,9 @@ abbrev pub lines : Judgement → Rooms → List ℕ
 lines (acceptance n) b = acceptedLines (b .room)
 lines (refusal k p) b = refusedLines k p (b .cycle)
 
--- a text and a candidate were judged in empty rooms of the size asked; what is printed of the result stands in the first n places, the others are as they were
-pub record Reported (text cand before after : List ℕ) (n : ℕ) : Type 0 where
+-- what was asked was judged in empty rooms of the size asked; what is printed of the result stands in the first n places, the others are as they were
+pub record Reported (a : Asked) (before after : List ℕ) (n : ℕ) : Type 0 where
   pub result : Result
-  pub judged : Judged text cand (record { room = replicate 24592 0; cycle = replicate 1024 0 }) result
+  pub judged : Judged a (record { room = replicate 24592 0; cycle = replicate 1024 0 }) result
   pub length-is : n ≡ length (lines (result .verdict) (result .rooms))
   pub bytes : after ≡ over (lines (result .verdict) (result .rooms)) before

@@ -7,7 +7,7 @@ use Rattle.faults.specs.Answer.{got}
 use Rattle.terms.specs.Says.{Names}
 use Rattle.diffs.specs.Diff.{Earliest}
 use Rattle.timetable.specs.Given.{recordsOf}
-use Rattle.judge.specs.Plan.{Rooms, Ready, readable, InForce}
+use Rattle.judge.specs.Plan.{Asked, Rooms, Ready, readable, InForce}
 use Rattle.judge.specs.Judged.{acceptance, Result, Judged}
 use Rattle.judge.specs.Demand2.{ShowsCycle}
 use Rattle.report.specs.Report.{two, listLine, recordLines, accepted, refused, lines}
@@ -21,10 +21,10 @@ pub record Times (q : Ready) (bytes : List ℕ) : Type 0 where
   pub is : bytes ≡ accepted ++ two (length names) (length (q .atoms)) ++ recordLines (recordsOf names time)
 
 -- an acceptance tells the earliest times; a negative cycle is told by its count and its atoms
-pub record Told (text cand : List ℕ) (b : Rooms) (r : Result) : Type 0 where
-  pub times : (n : ℕ) → r .verdict ≡ acceptance n → (q : Ready) × (readable text cand b ≡ got q) × Times q (lines (r .verdict) (r .rooms))
+pub record Told (a : Asked) (b : Rooms) (r : Result) : Type 0 where
+  pub times : (n : ℕ) → r .verdict ≡ acceptance n → (q : Ready) × (readable a b ≡ got q) × Times q (lines (r .verdict) (r .rooms))
   pub cycle : (q : Ready) (c : ShowsCycle q b r) → lines (r .verdict) (r .rooms) ≡ refused ++ two 10 (length (c .list)) ++ listLine (c .list)
 
--- for every text, candidate and rooms, and every result
+-- for whatever was asked, all rooms, and every result
 abbrev pub Tells : Type 0
-Tells = (text cand : List ℕ) (b : Rooms) (r : Result) → Judged text cand b r → Told text cand b r
+Tells = (a : Asked) (b : Rooms) (r : Result) → Judged a b r → Told a b r

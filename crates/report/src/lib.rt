@@ -6,6 +6,7 @@ ghost use lib.ListN.{length, drop};
 ghost use Rattle.io.specs.Counts.{Counts};
 ghost use Rattle.faults.specs.Values.{number};
 ghost use Rattle.timetable.specs.Table.{recordsAt};
+ghost use Rattle.judge.specs.Plan.{asked};
 ghost use Rattle.judge.specs.Values.{asVerdict, rooms};
 ghost use Rattle.report.specs.Report.{decimal, next, two, nexts, listLine, recordLine, recordLines, acceptedLines, refusedLines, lines, Reported};
 ghost use Rattle.report.specs.Steps.{Put, Fits, Legible, Reportable};
@@ -164,7 +165,7 @@ pub fn write(out: &mut [u8], verdict: Verdict, room: &[u8], cycle: &[u32]) -> us
 // Judges a text and a candidate in rooms of the size asked, writes what is printed of the result, and gives its length.
 pub fn judged(text: &[u8], cand: &[u8], out: &mut [u8]) -> usize
     requires { ⌜ 65536 ≤ length (now out) ⌝ }
-    ensures { λ r. ⌜ Reported (now (text .entry)) (now (cand .entry)) (now (out .entry)) (now (out .exit)) r ⌝ }
+    ensures { λ r. ⌜ Reported (asked (now (text .entry)) (now (cand .entry))) (now (out .entry)) (now (out .exit)) r ⌝ }
     ensures { λ r. ⌜ Counts r (now (out .exit)) ⌝ }
 {
     let mut room = [0u8; 24592];

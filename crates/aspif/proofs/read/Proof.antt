@@ -5,6 +5,9 @@ use Rattle.aspif.specs.Values.{taped}
 use Rattle.aspif.proofs.read.Statement.{statement}
 use Rattle.aspif.proofs.read.Tie as tie
 
+start-requires : tie.Need-start-requires
+start-requires c κs = search needs
+
 first-line-requires : tie.Need-first-line-requires
 first-line-requires c κs = search needs
 
@@ -20,7 +23,8 @@ refusal-requires c κs = search needs
 returns : tie.Need-returns
 unfolding statements plan taped
 returns c =
-    (rw (c .refusal .ensures, ← (c .before .before .before .first-line .ensures), c .before .enum-told .given .1), (rw (c .refusal .ensures, ← (c .before .before .before .first-line .ensures), c .before .enum-told .given .1), tt))
+    let f = rw (c .before .before .before .before .start .ensures) at (c .before .before .before .first-line .ensures) in
+    (rw (c .refusal .ensures, ← f, c .before .enum-told .given .1), (rw (c .refusal .ensures, ← f, c .before .enum-told .given .1), tt))
 
 lines-requires : tie.Need-lines-requires
 lines-requires c κs = search needs
@@ -31,15 +35,16 @@ same-length c = search needs
 returns-2 : tie.Need-returns-2
 unfolding statements plan
 returns-2 c =
-    let first-line = c .before .before .before .before .before .before .before .first-line in
+    let f = rw (c .before .before .before .before .before .before .before .before .start .ensures) at (c .before .before .before .before .before .before .before .first-line .ensures) in
     let the-a = c .before .before .before .before .before .a in
     let lines = c .before .before .lines in
-    (rw (← (first-line .ensures), the-a .given .1) (lines .ensures .0), (rw (← (first-line .ensures), the-a .given .1) (lines .ensures .1 .0), lines .ensures .1 .1))
+    (rw (← f, the-a .given .1) (lines .ensures .0), (rw (← f, the-a .given .1) (lines .ensures .1 .0), lines .ensures .1 .1))
 
 pub read-spec : {M : Type 1} → statement M
 read-spec =
     tie.close
     (tie.spec
+    start-requires
     first-line-requires
     enum-known-a
     enum-told

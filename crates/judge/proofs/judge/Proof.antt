@@ -2,9 +2,8 @@
 use borrow.Author.Needs.{needs}
 use borrow.Author.Tests.{lt-ltb, le-ltb}
 use native.Mathlib.Omega.{arith}
-use Rattle.judge.specs.Plan.{readable}
+use Rattle.judge.specs.Plan.{lent, legible, readable}
 use Rattle.judge.specs.Judged.{unreadable}
-use Rattle.judge.proofs.Staging.{pair-decides}
 use Rattle.judge.proofs.judge.Statement.{statement}
 use Rattle.judge.proofs.judge.Tie as tie
 
@@ -12,28 +11,28 @@ refuse-requires : tie.Need-refuse-requires
 refuse-requires c κs = search needs
 
 returns : tie.Need-returns
-unfolding readable
+unfolding readable lent
 returns c = unreadable 1 24592 (rw (lt-ltb _ _ (c .before .if1 .taken))) (rw (c .refuse .ensures))
 
 refuse-requires-2 : tie.Need-refuse-requires-2
 refuse-requires-2 c κs = search needs
 
 returns-2 : tie.Need-returns-2
-unfolding readable
+unfolding readable lent
 returns-2 c = unreadable 1 1024 (rw (le-ltb _ _ (c .before .before .if1 .left), lt-ltb _ _ (c .before .if2 .taken))) (rw (c .refuse2 .ensures))
 
 refuse-requires-3 : tie.Need-refuse-requires-3
 refuse-requires-3 c κs = search needs
 
 returns-3 : tie.Need-returns-3
-unfolding readable
+unfolding readable lent legible
 returns-3 c = unreadable 2 60000 (rw (le-ltb _ _ (c .before .before .before .if1 .left), le-ltb _ _ (c .before .before .if2 .left), lt-ltb _ _ (c .before .if3 .taken))) (rw (c .refuse3 .ensures))
 
-slice-aggregate-planned : tie.Need-slice-aggregate-planned
-slice-aggregate-planned c = search needs
+slice-aggregate-decided : tie.Need-slice-aggregate-decided
+slice-aggregate-decided c = search needs
 
-planned-requires : tie.Need-planned-requires
-planned-requires c κs = (omega (arith, c .before .before .before .if4 .taken), omega arith, record { bytes = c .before .before .before .before .before .before .if1 .left; places = c .before .before .before .before .before .if2 .left })
+decided-requires : tie.Need-decided-requires
+decided-requires c κs = (omega (arith, c .before .before .before .if4 .taken), omega arith, record { bytes = c .before .before .before .before .before .before .if1 .left; places = c .before .before .before .before .before .if2 .left })
 
 same-length : tie.Need-same-length
 same-length c = search needs
@@ -42,18 +41,13 @@ same-length-2 : tie.Need-same-length-2
 same-length-2 c = search needs
 
 returns-4 : tie.Need-returns-4
-returns-4 c =
-    let if1 = c .before .before .before .before .before .before .before .before .before .before .before .before .if1 in
-    let if2 = c .before .before .before .before .before .before .before .before .before .before .before .if2 in
-    let if3 = c .before .before .before .before .before .before .before .before .before .before .if3 in
-    let planned = c .before .before .before .before .before .planned in
-    pair-decides _ _ (record { bytes = if1 .left; places = if2 .left }) (if3 .left) (planned .ensures)
+returns-4 c = c .before .before .before .before .before .decided .ensures
 
-slice-aggregate-planned-2 : tie.Need-slice-aggregate-planned-2
-slice-aggregate-planned-2 c = search needs
+slice-aggregate-decided-2 : tie.Need-slice-aggregate-decided-2
+slice-aggregate-decided-2 c = search needs
 
-planned-requires-2 : tie.Need-planned-requires-2
-planned-requires-2 c κs = (c .before .before .before .before .if3 .left, omega arith, record { bytes = c .before .before .before .before .before .before .if1 .left; places = c .before .before .before .before .before .if2 .left })
+decided-requires-2 : tie.Need-decided-requires-2
+decided-requires-2 c κs = (c .before .before .before .before .if3 .left, omega arith, record { bytes = c .before .before .before .before .before .before .if1 .left; places = c .before .before .before .before .before .if2 .left })
 
 same-length-3 : tie.Need-same-length-3
 same-length-3 c = search needs
@@ -62,12 +56,7 @@ same-length-4 : tie.Need-same-length-4
 same-length-4 c = search needs
 
 returns-5 : tie.Need-returns-5
-returns-5 c =
-    let if1 = c .before .before .before .before .before .before .before .before .before .before .before .before .if1 in
-    let if2 = c .before .before .before .before .before .before .before .before .before .before .before .if2 in
-    let if3 = c .before .before .before .before .before .before .before .before .before .before .if3 in
-    let planned2 = c .before .before .before .before .before .planned2 in
-    pair-decides _ _ (record { bytes = if1 .left; places = if2 .left }) (if3 .left) (planned2 .ensures)
+returns-5 c = c .before .before .before .before .before .decided2 .ensures
 
 pub judge-spec : {M : Type 1} → statement M
 judge-spec =
@@ -79,13 +68,13 @@ judge-spec =
     returns-2
     refuse-requires-3
     returns-3
-    slice-aggregate-planned
-    planned-requires
+    slice-aggregate-decided
+    decided-requires
     same-length
     same-length-2
     returns-4
-    slice-aggregate-planned-2
-    planned-requires-2
+    slice-aggregate-decided-2
+    decided-requires-2
     same-length-3
     same-length-4
     returns-5)

@@ -1,4 +1,5 @@
 -- `judge_c::plan_judge` meets its contract. Assumes nothing.
+use Rattle.judge.specs.Plan.{asked}
 use Rattle.judge_c.proofs.Packing.{accepts, refuses, length-fits, place-fits}
 use native.Mathlib.Omega.{arith}
 use borrow.Author.Needs.{needs}
@@ -14,7 +15,7 @@ enum-known-a c = search needs
 cast-pack : tie.Need-cast-pack
 cast-pack c =
     let s = c .before .before .before .before .before .before .before .before .before .before .before .before .before .before .args in
-    omega (arith, length-fits (s .text .now) (s .cand .now) (rw (c .before .a .given .1) at (c .before .before .before .before .before .before .before .judge .ensures)))
+    omega (arith, length-fits (asked (s .text .now) (s .cand .now)) (rw (c .before .a .given .1) at (c .before .before .before .before .before .before .before .judge .ensures)))
 
 pack-requires : tie.Need-pack-requires
 pack-requires c κs = search needs
@@ -25,7 +26,7 @@ enum-known-a-2 c = search needs
 pack-refusal-requires : tie.Need-pack-refusal-requires
 pack-refusal-requires c κs =
     let s = c .before .before .before .before .before .before .before .before .before .before .before .before .before .before .args in
-    place-fits (s .text .now) (s .cand .now) (rw (c .before .a2 .given .1) at (c .before .before .before .before .before .before .before .judge .ensures))
+    place-fits (asked (s .text .now) (s .cand .now)) (rw (c .before .a2 .given .1) at (c .before .before .before .before .before .before .before .judge .ensures))
 
 same-length : tie.Need-same-length
 same-length c = search needs

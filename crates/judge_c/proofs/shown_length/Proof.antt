@@ -27,7 +27,7 @@ returns-2 : tie.Need-returns-2
 returns-2 c =
     let e = rw (c .before .before .a .given .1) at (c .before .before .before .before .kind-of .ensures) in
     let s = c .before .before .before .before .before .before .before .args in
-    ap length (c .show .ensures) ∙ ap (λ (k : ℕ). length (shown k (s .place) (s .text .now) (s .cand .now))) e
+    ap length (c .show .ensures .bytes) ∙ ap (λ (k : ℕ). length (shown k (s .place) (s .text .now) (s .cand .now))) e
 
 pub shown-length-spec : {M : Type 1} → statement M
 shown-length-spec =

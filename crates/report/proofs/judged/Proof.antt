@@ -21,7 +21,7 @@ slice-aggregate-write-2 : tie.Need-slice-aggregate-write-2
 slice-aggregate-write-2 c = search needs
 
 write-requires : tie.Need-write-requires
-write-requires c κs = judged-fits _ _ _ _ _ (c .before .before .before .before .before .judge .ensures) (omega (arith, c .before .before .before .before .before .judge .kept .1 .1 .1 .0)) (c .before .before .before .before .before .before .before .before .before .before .before .pre)
+write-requires c κs = judged-fits _ _ _ _ (c .before .before .before .before .before .judge .ensures) (omega (arith, c .before .before .before .before .before .judge .kept .1 .1 .1 .0)) (c .before .before .before .before .before .before .before .before .before .before .before .pre)
 
 same-length : tie.Need-same-length
 same-length c = search needs
@@ -31,7 +31,7 @@ returns c =
     let pre = c .before .before .before .before .before .before .before .before .before .before .before .before .before .before .pre in
     let judge = c .before .before .before .before .before .before .before .before .judge in
     let write = c .before .before .write in
-    (written-whole (judge .ensures) (write .ensures .0) (judged-fits _ _ _ _ _ (judge .ensures) (omega (arith, judge .kept .1 .1 .1 .0)) pre .1), write .ensures .1)
+    (written-whole (judge .ensures) (write .ensures .0) (judged-fits _ _ _ _ (judge .ensures) (omega (arith, judge .kept .1 .1 .1 .0)) pre .1), write .ensures .1)
 
 pub judged-spec : {M : Type 1} → statement M
 judged-spec =

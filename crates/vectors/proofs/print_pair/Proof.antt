@@ -27,7 +27,7 @@ slice-aggregate-write-3 : tie.Need-slice-aggregate-write-3
 slice-aggregate-write-3 c = search needs
 
 write-requires : tie.Need-write-requires
-write-requires c κs = judged-fits _ _ _ _ _ (c .before .before .before .before .before .before .judge .ensures) (omega (arith, c .before .before .before .before .before .before .judge .kept .1 .1 .1 .0)) (omega (arith, c .before .before .before .large-buffer .ensures))
+write-requires c κs = judged-fits _ _ _ _ (c .before .before .before .before .before .before .judge .ensures) (omega (arith, c .before .before .before .before .before .before .judge .kept .1 .1 .1 .0)) (omega (arith, c .before .before .before .large-buffer .ensures))
 
 array-share-prefix-out : tie.Need-array-share-prefix-out
 array-share-prefix-out c = search needs

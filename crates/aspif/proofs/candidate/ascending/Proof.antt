@@ -3,11 +3,9 @@
 use Prim.Native.Nat.{_-_}
 use mathlib.Core.Path.{sym, ap, _∙_}
 use native.Mathlib.Omega.{arith}
-use lib.Dec.{lit<}
 use lib.ListN.{length-set}
 use borrow.Author.Needs.{needs}
 use Rattle.fields.specs.Values.{asAtom, asPassed}
-use Rattle.fields.proofs.Naturals.{there}
 use Rattle.aspif.specs.Candidate.{ascending}
 use Rattle.aspif.proofs.Candidates.{above-bounds, Marking, marking-start, marking-more, marking-out, marking-stop, marking-open, marking-last}
 use Rattle.aspif.proofs.candidate.ascending.Statement.{statement}
@@ -46,17 +44,23 @@ cast-i c = search needs
 slice-write-x : tie.Need-slice-write-x Inv-loop μ-loop
 slice-write-x c = omega (arith, above-bounds _ _ _ (sym (ap asAtom (c .before .before .a .given .1)) ∙ c .before .before .before .before .atom-above .ensures), c .before .before .before .before .before .before .loop .inv .places)
 
-look-requires : tie.Need-look-requires Inv-loop μ-loop
-look-requires c κs = search needs
+byte-requires : tie.Need-byte-requires Inv-loop μ-loop
+byte-requires c κs = search needs
 
-ending-requires : tie.Need-ending-requires Inv-loop μ-loop
-ending-requires c κs = search needs
+enum-known-b : tie.Need-enum-known-b Inv-loop μ-loop
+enum-known-b c = search needs
 
 enum-told-2 : tie.Need-enum-told-2 Inv-loop μ-loop
 enum-told-2 c = search needs
 
+ending-requires : tie.Need-ending-requires Inv-loop μ-loop
+ending-requires c κs = search needs
+
 enum-told-3 : tie.Need-enum-told-3 Inv-loop μ-loop
 enum-told-3 c = search needs
+
+enum-told-4 : tie.Need-enum-told-4 Inv-loop μ-loop
+enum-told-4 c = search needs
 
 refusal-requires-2 : tie.Need-refusal-requires-2 Inv-loop μ-loop
 refusal-requires-2 c κs = search needs
@@ -66,45 +70,37 @@ same-length-2 c = simp length-set (omega arith)
 
 returns-2 : tie.Need-returns-2 Inv-loop μ-loop
 returns-2 c =
-    let the-loop = c .before .before .before .before .before .before .before .before .before .before .before .before .loop in
-    let the-loop-test = c .before .before .before .before .before .before .before .before .before .before .before .loop-test in
-    let the-atom-above = c .before .before .before .before .before .before .before .before .before .before .atom-above in
-    let the-a-2 = c .before .before .before .before .before .before .before .before .a in
-    let the-look = c .before .before .before .before .before .look in
-    let the-if1 = c .before .before .before .before .if1 in
-    let loop = the-loop in
-    let loop-test = the-loop-test in
-    let atom-above = the-atom-above in
-    let the-a = the-a-2 in
-    let look = the-look in
-    let if1 = the-if1 in
-    rw (c .refusal2 .ensures, c .before .enum-told3 .given .1) (marking-open (loop .inv) (loop-test .taken) (sym (ap asAtom (the-a .given .1)) ∙ atom-above .ensures) (λ h. if1 .taken (look .ensures ∙ h)) (sym (ap asPassed (c .before .enum-told3 .given .1)) ∙ c .before .before .before .ending .ensures))
+    let loop = c .before .before .before .before .before .before .before .before .before .before .before .before .before .loop in
+    let loop-test = c .before .before .before .before .before .before .before .before .before .before .before .before .loop-test in
+    let atom-above = c .before .before .before .before .before .before .before .before .before .before .before .atom-above in
+    let the-a = c .before .before .before .before .before .before .before .before .before .a in
+    let byte = c .before .before .before .before .before .before .byte in
+    let told = c .before .before .before .before .enum-told2 in
+    rw (c .refusal2 .ensures, c .before .enum-told4 .given .1) (marking-open (loop .inv) (loop-test .taken) (sym (ap asAtom (the-a .given .1)) ∙ atom-above .ensures) (sym (ap asPassed (told .given .1)) ∙ byte .ensures) (sym (ap asPassed (c .before .enum-told4 .given .1)) ∙ c .before .before .before .ending .ensures))
 
 same-length-3 : tie.Need-same-length-3 Inv-loop μ-loop
 same-length-3 c = simp length-set (omega arith)
 
 returns-3 : tie.Need-returns-3 Inv-loop μ-loop
 returns-3 c =
-    let loop = c .before .before .before .before .before .before .before .before .before .before .before .loop in
-    let loop-test = c .before .before .before .before .before .before .before .before .before .before .loop-test in
-    let atom-above = c .before .before .before .before .before .before .before .before .before .atom-above in
-    let the-a = c .before .before .before .before .before .before .before .a in
-    let look = c .before .before .before .before .look in
-    marking-last (loop .inv) (loop-test .taken) (sym (ap asAtom (the-a .given .1)) ∙ atom-above .ensures) (λ h. c .before .before .before .if1 .taken (look .ensures ∙ h)) (sym (ap asPassed (c .enum-told2 .given .1)) ∙ c .before .before .ending .ensures)
-
-add-next : tie.Need-add-next Inv-loop μ-loop
-add-next c = omega (arith, there 32 _ _ (lit< tt) (sym (c .before .look .ensures) ∙ c .if1 .left))
+    let loop = c .before .before .before .before .before .before .before .before .before .before .before .before .loop in
+    let loop-test = c .before .before .before .before .before .before .before .before .before .before .before .loop-test in
+    let atom-above = c .before .before .before .before .before .before .before .before .before .before .atom-above in
+    let the-a = c .before .before .before .before .before .before .before .before .a in
+    let byte = c .before .before .before .before .before .byte in
+    let told = c .before .before .before .enum-told2 in
+    marking-last (loop .inv) (loop-test .taken) (sym (ap asAtom (the-a .given .1)) ∙ atom-above .ensures) (sym (ap asPassed (told .given .1)) ∙ byte .ensures) (sym (ap asPassed (c .enum-told3 .given .1)) ∙ c .before .before .ending .ensures)
 
 loop-less : tie.Need-loop-less Inv-loop μ-loop
-loop-less c = omega (arith, above-bounds _ _ _ (sym (ap asAtom (c .before .before .before .before .a .given .1)) ∙ c .before .before .before .before .before .before .atom-above .ensures))
+loop-less c = omega (arith, above-bounds _ _ _ (sym (ap asAtom (c .before .before .before .before .before .before .a .given .1)) ∙ c .before .before .before .before .before .before .before .before .atom-above .ensures))
 
 loop-again : tie.Need-loop-again Inv-loop μ-loop
 loop-again c =
-    let loop = c .before .before .before .before .before .before .before .before .loop in
-    let loop-test = c .before .before .before .before .before .before .before .loop-test in
-    let atom-above = c .before .before .before .before .before .before .atom-above in
-    let the-a = c .before .before .before .before .a in
-    marking-more (loop .inv) (loop-test .taken) (sym (ap asAtom (the-a .given .1)) ∙ atom-above .ensures) (sym (c .before .look .ensures) ∙ c .if1 .left)
+    let loop = c .before .before .before .before .before .before .before .before .before .before .loop in
+    let loop-test = c .before .before .before .before .before .before .before .before .before .loop-test in
+    let atom-above = c .before .before .before .before .before .before .before .before .atom-above in
+    let the-a = c .before .before .before .before .before .before .a in
+    marking-more (loop .inv) (loop-test .taken) (sym (ap asAtom (the-a .given .1)) ∙ atom-above .ensures) (sym (ap asPassed (c .before .b .given .1)) ∙ c .before .before .before .byte .ensures)
 
 seven-requires : tie.Need-seven-requires Inv-loop μ-loop
 seven-requires c κs = search needs
@@ -130,16 +126,17 @@ ascending-spec =
     returns
     cast-i
     slice-write-x
-    look-requires
-    ending-requires
+    byte-requires
+    enum-known-b
     enum-told-2
+    ending-requires
     enum-told-3
+    enum-told-4
     refusal-requires-2
     same-length-2
     returns-2
     same-length-3
     returns-3
-    add-next
     loop-less
     loop-again
     seven-requires

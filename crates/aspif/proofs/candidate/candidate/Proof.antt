@@ -1,4 +1,4 @@
--- `aspif::candidate::candidate` meets its contract: byte 10 alone leaves the bitmap blank, anything else is a list of atoms. Assumes nothing.
+-- `aspif::candidate::candidate` meets its contract: a line end alone leaves the bitmap blank, anything else is a list of atoms. Assumes nothing.
 use mathlib.Core.Path.{sym, ap, _∙_}
 use borrow.Author.Needs.{needs}
 use Rattle.fields.specs.Values.{asPassed}
@@ -7,11 +7,11 @@ use Rattle.aspif.proofs.Candidates.{empty-refused, empty-good, candidat
 use Rattle.aspif.proofs.candidate.candidate.Statement.{statement}
 use Rattle.aspif.proofs.candidate.candidate.Tie as tie
 
-look-requires : tie.Need-look-requires
-look-requires c κs = search needs
+start-requires : tie.Need-start-requires
+start-requires c κs = search needs
 
-ending-requires : tie.Need-ending-requires
-ending-requires c κs = search needs
+line-end-requires : tie.Need-line-end-requires
+line-end-requires c κs = search needs
 
 enum-told : tie.Need-enum-told
 enum-told c = search needs
@@ -19,35 +19,53 @@ enum-told c = search needs
 enum-told-2 : tie.Need-enum-told-2
 enum-told-2 c = search needs
 
-refusal-requires : tie.Need-refusal-requires
-refusal-requires c κs = search needs
-
-returns : tie.Need-returns
-returns c = rw (c .refusal .ensures, c .before .enum-told2 .given .1) (empty-refused _ (sym (c .before .before .before .before .before .look .ensures) ∙ c .before .before .before .before .if1 .taken) (sym (ap asPassed (c .before .enum-told2 .given .1)) ∙ c .before .before .before .ending .ensures))
-
-returns-2 : tie.Need-returns-2
-returns-2 c = rw (marks-none _ (c .before .before .before .before .before .before .before .pre .clear)) (empty-good _ (sym (c .before .before .before .before .look .ensures) ∙ c .before .before .before .if1 .taken) (sym (ap asPassed (c .enum-told .given .1)) ∙ c .before .before .ending .ensures))
-
 ascending-requires : tie.Need-ascending-requires
 ascending-requires c κs = search needs
 
 same-length : tie.Need-same-length
 same-length c = search needs
 
+returns : tie.Need-returns
+returns c =
+    let z = c .before .before .before .before .before .before .before .start .ensures in
+    (rw z at (c .before .before .ascending .ensures)) ∙ candidate-other _ (sym (ap asPassed (c .before .before .before .before .enum-told2 .given .1)) ∙ (rw z at (c .before .before .before .before .before .before .line-end .ensures)))
+
+ending-requires : tie.Need-ending-requires
+ending-requires c κs = search needs
+
+enum-told-3 : tie.Need-enum-told-3
+enum-told-3 c = search needs
+
+enum-told-4 : tie.Need-enum-told-4
+enum-told-4 c = search needs
+
+refusal-requires : tie.Need-refusal-requires
+refusal-requires c κs = search needs
+
+returns-2 : tie.Need-returns-2
+returns-2 c =
+    let z = c .before .before .before .before .before .before .before .start .ensures in
+    rw (c .refusal .ensures, c .before .enum-told4 .given .1) (empty-refused _ (sym (ap asPassed (c .before .before .before .before .enum-told .given .1)) ∙ (rw z at (c .before .before .before .before .before .before .line-end .ensures))) (sym (ap asPassed (c .before .enum-told4 .given .1)) ∙ (rw z at (c .before .before .before .ending .ensures))))
+
 returns-3 : tie.Need-returns-3
-returns-3 c = c .before .before .ascending .ensures ∙ candidate-other _ (λ h. c .before .before .before .before .if1 .left (c .before .before .before .before .before .look .ensures ∙ h))
+returns-3 c =
+    let z = c .before .before .before .before .before .before .start .ensures in
+    rw (marks-none _ (c .before .before .before .before .before .before .before .before .before .pre .clear)) (empty-good _ (sym (ap asPassed (c .before .before .before .enum-told .given .1)) ∙ (rw z at (c .before .before .before .before .before .line-end .ensures))) (sym (ap asPassed (c .enum-told3 .given .1)) ∙ (rw z at (c .before .before .ending .ensures))))
 
 pub candidate-spec : {M : Type 1} → statement M
 candidate-spec =
     tie.close
     (tie.spec
-    look-requires
-    ending-requires
+    start-requires
+    line-end-requires
     enum-told
     enum-told-2
-    refusal-requires
-    returns
-    returns-2
     ascending-requires
     same-length
+    returns
+    ending-requires
+    enum-told-3
+    enum-told-4
+    refusal-requires
+    returns-2
     returns-3)

@@ -31,12 +31,12 @@ returns-2 : tie.Need-returns-2
 unfolding firstLine noTag
 returns-2 c = rw (← (c .before .before .before .before .before .bytes .ensures), c .before .before .before .a .given .1, ← (c .before .look .ensures), eq-eqb _ _ (c .if1 .taken))
 
-byte-requires : tie.Need-byte-requires
-byte-requires c κs = search needs
+line-end-requires : tie.Need-line-end-requires
+line-end-requires c κs = search needs
 
 returns-3 : tie.Need-returns-3
 unfolding firstLine noTag
-returns-3 c = rw (← (c .before .before .before .before .before .before .bytes .ensures), c .before .before .before .before .a .given .1, ← (c .before .before .look .ensures), ne-eqb _ _ (c .before .if1 .left)) (c .byte .ensures)
+returns-3 c = rw (← (c .before .before .before .before .before .before .bytes .ensures), c .before .before .before .before .a .given .1, ← (c .before .before .look .ensures), ne-eqb _ _ (c .before .if1 .left)) (c .line-end .ensures)
 
 pub first-line-spec : {M : Type 1} → statement M
 first-line-spec =
@@ -49,5 +49,5 @@ first-line-spec =
     returns
     look-requires
     returns-2
-    byte-requires
+    line-end-requires
     returns-3)

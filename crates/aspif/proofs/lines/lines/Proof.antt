@@ -5,12 +5,12 @@ use mathlib.Core.Path.{_≡_, refl, _∙_}
 use native.Mathlib.Omega.{arith}
 use borrow.Author.Needs.{needs}
 use lib.ListN.{length}
-use Rattle.fields.proofs.Ahead.{natural-ahead}
+use Rattle.fields.proofs.Ahead.{lineEnd-ahead, natural-ahead}
 use Rattle.fields.proofs.Naturals.{ten-far}
 use Rattle.fields.proofs.Taping.{wrote, stopped}
-use Rattle.aspif.specs.Words.{words}
+use Rattle.aspif.specs.Words.{wordsAt}
 use Rattle.aspif.specs.Values.{taped}
-use Rattle.aspif.proofs.Turns.{turn-none, turn-stop, last-stop, last-goes, line-stop, line-goes, Reached, reach-start, reach-fault, reach-more, end-taped, end-lines, end-walks}
+use Rattle.aspif.proofs.Turns.{turn-none, turn-stop, last-stop, last-goes, line-stop, end-stop, line-goes, Reached, reach-start, reach-fault, reach-more, end-taped, end-lines, end-walks}
 use Rattle.aspif.proofs.lines.lines.Statement.{statement}
 use Rattle.aspif.proofs.lines.lines.Tie as tie
 
@@ -123,9 +123,41 @@ returns-4 c =
     let if1 = c .before .before .before .before .before .before .before .if1 in
     let statement-of = c .before .before .before .before .before .statement-of in
     let e = rw (the-a .given .1) at (natural .ensures) in
-    let g = stopped words _ _ _ (rw (c .before .enum-told4 .given .1) at (statement-of .ensures .0)) in
+    let g = stopped (wordsAt _) _ _ _ (rw (c .before .enum-told4 .given .1) at (statement-of .ensures .0)) in
     let f = reach-fault _ _ _ _ _ _ _ _ (loop .inv .0) _ _ (line-stop _ _ _ _ _ _ _ (loop-test .taken) e (if1 .left) g) in
     (rw (c .refusal3 .ensures, c .before .enum-told4 .given .1, f), (rw (c .refusal3 .ensures, c .before .enum-told4 .given .1, f), tt))
+
+line-end-requires : tie.Need-line-end-requires Inv-loop μ-loop
+line-end-requires c κs = search needs
+
+enum-known-z : tie.Need-enum-known-z Inv-loop μ-loop
+enum-known-z c = search needs
+
+enum-told-5 : tie.Need-enum-told-5 Inv-loop μ-loop
+enum-told-5 c = search needs
+
+refusal-requires-4 : tie.Need-refusal-requires-4 Inv-loop μ-loop
+refusal-requires-4 c κs = search needs
+
+same-length-5 : tie.Need-same-length-5 Inv-loop μ-loop
+same-length-5 c = c .before .before .before .before .before .before .before .before .before .statement-of .kept .1 .1 .1 .1 .0 ∙ c .before .before .before .before .before .before .before .before .before .before .before .before .before .before .before .before .before .loop .inv .1
+
+returns-5 : tie.Need-returns-5 Inv-loop μ-loop
+unfolding taped
+returns-5 c =
+    let loop = c .before .before .before .before .before .before .before .before .before .before .before .before .before .before .before .before .before .loop in
+    let loop-test = c .before .before .before .before .before .before .before .before .before .before .before .before .before .before .before .before .loop-test in
+    let natural = c .before .before .before .before .before .before .before .before .before .before .before .before .before .before .before .natural in
+    let the-a = c .before .before .before .before .before .before .before .before .before .before .before .before .before .a in
+    let if1 = c .before .before .before .before .before .before .before .before .before .before .before .if1 in
+    let statement-of = c .before .before .before .before .before .before .before .before .before .statement-of in
+    let the-w = c .before .before .before .before .before .w in
+    let line-end = c .before .before .before .line-end in
+    let e = rw (the-a .given .1) at (natural .ensures) in
+    let g = wrote (wordsAt _) _ _ _ (rw (the-w .given .1) at (statement-of .ensures .0)) in
+    let h = rw (c .before .enum-told5 .given .1) at (line-end .ensures) in
+    let f = reach-fault _ _ _ _ _ _ _ _ (loop .inv .0) _ _ (end-stop _ _ _ _ _ _ _ _ _ (loop-test .taken) e (if1 .left) (g .is) h) in
+    (rw (c .refusal4 .ensures, c .before .enum-told5 .given .1, f), (rw (c .refusal4 .ensures, c .before .enum-told5 .given .1, f), tt))
 
 sub-left : tie.Need-sub-left Inv-loop μ-loop
 sub-left c = search needs
@@ -135,24 +167,27 @@ loop-less c = search needs
 
 loop-again : tie.Need-loop-again Inv-loop μ-loop
 loop-again c =
-    let loop = c .before .before .before .before .before .before .before .before .before .before .before .before .before .loop in
-    let loop-test = c .before .before .before .before .before .before .before .before .before .before .before .before .loop-test in
-    let natural = c .before .before .before .before .before .before .before .before .before .before .before .natural in
-    let the-a = c .before .before .before .before .before .before .before .before .before .a in
-    let if1 = c .before .before .before .before .before .before .before .if1 in
-    let statement-of = c .before .before .before .before .before .statement-of in
+    let loop = c .before .before .before .before .before .before .before .before .before .before .before .before .before .before .before .before .before .loop in
+    let loop-test = c .before .before .before .before .before .before .before .before .before .before .before .before .before .before .before .before .loop-test in
+    let natural = c .before .before .before .before .before .before .before .before .before .before .before .before .before .before .before .natural in
+    let the-a = c .before .before .before .before .before .before .before .before .before .before .before .before .before .a in
+    let if1 = c .before .before .before .before .before .before .before .before .before .before .before .if1 in
+    let statement-of = c .before .before .before .before .before .before .before .before .before .statement-of in
+    let the-w = c .before .before .before .before .before .w in
     let e = rw (the-a .given .1) at (natural .ensures) in
-    let g = wrote words _ _ _ (rw (c .before .w .given .1) at (statement-of .ensures .0)) in
-    let b = rw (c .before .w .given .1) at (statement-of .ensures .1) in
-    let l = line-goes _ _ _ _ _ _ _ (loop-test .taken) e (if1 .left) (g .is) in
-    (reach-more _ _ _ _ _ _ _ _ (loop .inv .0) _ _ _ _ _ l (g .tape) (g .next) b (omega arith), statement-of .kept .1 .1 .1 .1 .0 ∙ loop .inv .1)
+    let g = wrote (wordsAt _) _ _ _ (rw (the-w .given .1) at (statement-of .ensures .0)) in
+    let b = rw (the-w .given .1) at (statement-of .ensures .1) in
+    let h = rw (c .before .z .given .1) at (c .before .before .before .line-end .ensures) in
+    let f = lineEnd-ahead _ _ .ends _ _ h in
+    let l = line-goes _ _ _ _ _ _ _ _ (loop-test .taken) e (if1 .left) (g .is) h in
+    (reach-more _ _ _ _ _ _ _ _ (loop .inv .0) _ _ _ _ _ l (g .tape) (g .next) (omega arith) (omega arith), statement-of .kept .1 .1 .1 .1 .0 ∙ loop .inv .1)
 
-same-length-5 : tie.Need-same-length-5 Inv-loop μ-loop
-same-length-5 c = c .before .loop .inv .1
+same-length-6 : tie.Need-same-length-6 Inv-loop μ-loop
+same-length-6 c = c .before .loop .inv .1
 
-returns-5 : tie.Need-returns-5 Inv-loop μ-loop
+returns-6 : tie.Need-returns-6 Inv-loop μ-loop
 unfolding taped
-returns-5 c =
+returns-6 c =
     let f = reach-fault _ _ _ _ _ _ _ _ (c .before .loop .inv .0) _ _ (turn-none _ _ _ (c .loop-test .left)) in
     (rw f, (rw f, tt))
 
@@ -184,8 +219,14 @@ lines-spec =
     refusal-requires-3
     same-length-4
     returns-4
+    line-end-requires
+    enum-known-z
+    enum-told-5
+    refusal-requires-4
+    same-length-5
+    returns-5
     sub-left
     loop-less
     loop-again
-    same-length-5
-    returns-5)
+    same-length-6
+    returns-6)

@@ -3,7 +3,7 @@ use borrow.Author.Needs.{needs}
 use native.Mathlib.Omega.{arith}
 use Rattle.fields.specs.Tape.{onTape}
 use Rattle.aspif.specs.Grammar.{body}
-use Rattle.aspif.proofs.Ending.{bodyKind-ahead}
+use Rattle.aspif.proofs.Selectors.{bodyKind-ahead}
 use Rattle.aspif.proofs.rules.body.Statement.{statement}
 use Rattle.aspif.proofs.rules.body.Tie as tie
 

@@ -3,18 +3,18 @@ use borrow.Author.Needs.{needs}
 use mathlib.Core.Path.{_∙_}
 use mathlib.Core.List.{[], _∷_}
 use native.Mathlib.Omega.{arith}
+use lib.Dec.{lit<}
 use Rattle.fields.specs.Tape.{listed}
-use Rattle.fields.proofs.Ahead.{stringLength-far}
-use Rattle.fields.proofs.Taping.{wrote, stopped, on-fault, on-start, on-more}
+use Rattle.fields.proofs.Ahead.{naturalThen-far}
+use Rattle.fields.proofs.Taping.{wrote, stopped, on-fault, on-start, on-more, on-last}
 use Rattle.fields.specs.Fields.{string}
 use Rattle.aspif.specs.Grammar.{outputLine}
 use Rattle.aspif.proofs.Coding.{literals-forth}
-use Rattle.aspif.proofs.Ending.{line-ends}
 use Rattle.aspif.proofs.rules.output_line.Statement.{statement}
 use Rattle.aspif.proofs.rules.output_line.Tie as tie
 
-string-length-requires : tie.Need-string-length-requires
-string-length-requires c κs = search needs
+natural-then-requires : tie.Need-natural-then-requires
+natural-then-requires c κs = search needs
 
 enum-known-a : tie.Need-enum-known-a
 enum-known-a c = search needs
@@ -27,20 +27,20 @@ refusal-requires c κs = search needs
 
 returns : tie.Need-returns
 unfolding outputLine string
-returns c = (rw (c .refusal .ensures, ← (c .before .before .before .string-length .ensures), c .before .enum-told .given .1) (on-fault _ _ _ _ _), tt)
+returns c = (rw (c .refusal .ensures, ← (c .before .before .before .natural-then .ensures), c .before .enum-told .given .1) (on-fault _ _ _ _ _), tt)
 
 begin-requires : tie.Need-begin-requires
 begin-requires c κs =
     let p = c .before .before .before .before .before .before .before .pre in
-    let ea = rw (c .before .before .a .given .1) at (c .before .before .before .before .string-length .ensures) in
-    let fa = stringLength-far _ _ .ends _ _ ea in
+    let ea = rw (c .before .before .a .given .1) at (c .before .before .before .before .natural-then .ensures) in
+    let fa = naturalThen-far _ _ 32 (lit< tt) _ _ .ends _ _ ea in
     omega arith
 
 listed-requires : tie.Need-listed-requires
 listed-requires c κs =
     let p = c .before .before .before .before .before .before .before .before .before .before .before .pre in
-    let ea = rw (c .before .before .before .before .before .before .a .given .1) at (c .before .before .before .before .before .before .before .before .string-length .ensures) in
-    let fa = stringLength-far _ _ .ends _ _ ea in
+    let ea = rw (c .before .before .before .before .before .before .a .given .1) at (c .before .before .before .before .before .before .before .before .natural-then .ensures) in
+    let fa = naturalThen-far _ _ 32 (lit< tt) _ _ .ends _ _ ea in
     let nbegin = c .before .before .before .begin .ensures .1 in
     (omega arith, omega arith, rw (c .before .before .before .begin .kept .0) (omega arith))
 
@@ -56,92 +56,43 @@ same-length c = c .before .before .before .before .listed .kept .1 .1 .1 .1 .0 �
 returns-2 : tie.Need-returns-2
 unfolding outputLine string
 returns-2 c =
-    let string-length = c .before .before .before .before .before .before .before .before .before .before .before .before .before .string-length in
+    let natural-then = c .before .before .before .before .before .before .before .before .before .before .before .before .before .natural-then in
     let the-a = c .before .before .before .before .before .before .before .before .before .before .before .a in
     let the-listed = c .before .before .before .before .listed in
     let qt = stopped listed _ _ _ (rw (c .enum-told2 .given .1) at (the-listed .ensures .0)) in
-    (rw (c .enum-told2 .given .1, ← (string-length .ensures), the-a .given .1, qt) (on-fault _ _ _ _ _), the-listed .ensures .1)
+    (rw (c .enum-told2 .given .1, ← (natural-then .ensures), the-a .given .1, qt) (on-fault _ _ _ _ _), the-listed .ensures .1)
 
 literals-requires : tie.Need-literals-requires
 literals-requires c κs =
     let p = c .before .before .before .before .before .before .before .before .before .before .before .before .before .before .before .before .before .before .pre in
-    let ea = rw (c .before .before .before .before .before .before .before .before .before .before .before .before .before .a .given .1) at (c .before .before .before .before .before .before .before .before .before .before .before .before .before .before .before .string-length .ensures) in
-    let fa = stringLength-far _ _ .ends _ _ ea in
+    let ea = rw (c .before .before .before .before .before .before .before .before .before .before .before .before .before .a .given .1) at (c .before .before .before .before .before .before .before .before .before .before .before .before .before .before .before .natural-then .ensures) in
+    let fa = naturalThen-far _ _ 32 (lit< tt) _ _ .ends _ _ ea in
     let nbegin = c .before .before .before .before .before .before .before .before .before .before .begin .ensures .1 in
     let rt = rw (c .before .before .t .given .1) at (c .before .before .before .before .before .before .listed .ensures .1) in
     (omega arith, rw (c .before .before .before .before .before .before .listed .kept .1 .1 .1 .1 .0 ∙ c .before .before .before .before .before .before .before .before .before .before .begin .kept .0) (omega arith))
 
-enum-known-b : tie.Need-enum-known-b
-enum-known-b c = search needs
-
-enum-told-3 : tie.Need-enum-told-3
-enum-told-3 c = search needs
-
 same-length-2 : tie.Need-same-length-2
-same-length-2 c =
-    let begin = c .before .before .before .before .before .before .before .before .before .before .before .before .before .before .before .begin in
-    let listed = c .before .before .before .before .before .before .before .before .before .before .before .listed in
-    let literals = c .before .before .before .before .literals in
-    literals .kept .1 .1 .0 ∙ listed .kept .1 .1 .1 .1 .0 ∙ begin .kept .0
+same-length-2 c = c .before .before .literals .kept .1 .1 .0 ∙ c .before .before .before .before .before .before .before .before .before .listed .kept .1 .1 .1 .1 .0 ∙ c .before .before .before .before .before .before .before .before .before .before .before .before .before .begin .kept .0
 
 returns-3 : tie.Need-returns-3
 unfolding outputLine string
 returns-3 c =
-    let string-length = c .before .before .before .before .before .before .before .before .before .before .before .before .before .before .before .before .before .before .before .before .string-length in
-    let the-a = c .before .before .before .before .before .before .before .before .before .before .before .before .before .before .before .before .before .before .a in
-    let the-listed = c .before .before .before .before .before .before .before .before .before .before .before .listed in
-    let the-t = c .before .before .before .before .before .before .before .t in
-    let literals = c .before .before .before .before .literals in
-    let wt = wrote listed _ _ _ (rw (the-t .given .1) at (the-listed .ensures .0)) in
-    let qb = stopped listed _ _ _ (rw (c .enum-told3 .given .1) at (literals .ensures .0)) in
-    (rw (c .enum-told3 .given .1, ← (string-length .ensures), the-a .given .1, wt .is, qb) (on-fault _ _ _ _ _), literals .ensures .1)
-
-end-line-requires : tie.Need-end-line-requires
-end-line-requires c κs =
-    let pre = c .before .before .before .before .before .before .before .before .before .before .before .before .before .before .before .before .before .before .before .before .before .before .before .before .pre in
-    let string-length = c .before .before .before .before .before .before .before .before .before .before .before .before .before .before .before .before .before .before .before .before .before .string-length in
-    let the-a = c .before .before .before .before .before .before .before .before .before .before .before .before .before .before .before .before .before .before .before .a in
-    let begin = c .before .before .before .before .before .before .before .before .before .before .before .before .before .before .before .before .begin in
-    let listed = c .before .before .before .before .before .before .before .before .before .before .before .before .listed in
-    let the-t = c .before .before .before .before .before .before .before .before .t in
-    let literals = c .before .before .before .before .before .literals in
-    let p = pre in
-    let ea = rw (the-a .given .1) at (string-length .ensures) in
-    let fa = stringLength-far _ _ .ends _ _ ea in
-    let nbegin = begin .ensures .1 in
-    let rt = rw (the-t .given .1) at (listed .ensures .1) in
-    let rb = rw (c .before .b .given .1) at (literals .ensures .1) in
-    omega arith
-
-same-length-3 : tie.Need-same-length-3
-same-length-3 c =
-    let begin = c .before .before .before .before .before .before .before .before .before .before .before .before .before .before .before .before .before .begin in
-    let listed = c .before .before .before .before .before .before .before .before .before .before .before .before .before .listed in
-    let literals = c .before .before .before .before .before .before .literals in
-    literals .kept .1 .1 .0 ∙ listed .kept .1 .1 .1 .1 .0 ∙ begin .kept .0
-
-returns-4 : tie.Need-returns-4
-unfolding outputLine string
-returns-4 c =
-    let string-length = c .before .before .before .before .before .before .before .before .before .before .before .before .before .before .before .before .before .before .before .before .before .before .string-length in
-    let the-a = c .before .before .before .before .before .before .before .before .before .before .before .before .before .before .before .before .before .before .before .before .a in
-    let begin = c .before .before .before .before .before .before .before .before .before .before .before .before .before .before .before .before .before .begin in
-    let the-listed = c .before .before .before .before .before .before .before .before .before .before .before .before .before .listed in
-    let the-t = c .before .before .before .before .before .before .before .before .before .t in
-    let literals = c .before .before .before .before .before .before .literals in
-    let wt = wrote listed _ _ _ (rw (the-t .given .1) at (the-listed .ensures .0)) in
-    let wb = wrote listed _ _ _ (rw (c .before .before .b .given .1) at (literals .ensures .0)) in (
-      rw (← (string-length .ensures), the-a .given .1, wt .is, wb .is) (c .end-line .ensures .0 _ ∙ line-ends _ _ _ _ _ _ _
-          (on-more _ _ _ (listed (wb .value)) (on-more _ _ _ (listed (wt .value)) (on-more _ _ _ (_ ∷ _ ∷ []) (on-start _ _) (begin .ensures .0) (begin .ensures .1)) (wt .tape) (wt .next)) (wb .tape) (wb .next))
-          (rw literals-forth)),
-      c .end-line .ensures .1,
+    let natural-then = c .before .before .before .before .before .before .before .before .before .before .before .before .before .before .before .before .before .before .natural-then in
+    let the-a = c .before .before .before .before .before .before .before .before .before .before .before .before .before .before .before .before .a in
+    let begin = c .before .before .before .before .before .before .before .before .before .before .before .before .before .begin in
+    let literals = c .before .before .literals in
+    let wt = wrote listed _ _ _ (rw (c .before .before .before .before .before .t .given .1) at (c .before .before .before .before .before .before .before .before .before .listed .ensures .0)) in (
+      rw (← (natural-then .ensures), the-a .given .1, wt .is) (literals .ensures .0 ∙ on-last _ _ _ _ _ _
+          (on-more _ _ _ (listed (wt .value)) (on-more _ _ _ (_ ∷ _ ∷ []) (on-start _ _) (begin .ensures .0) (begin .ensures .1)) (wt .tape) (wt .next))
+          (λ ls. rw literals-forth)),
+      literals .ensures .1,
     )
 
 pub output-line-spec : {M : Type 1} → statement M
 output-line-spec =
     tie.close
     (tie.spec
-    string-length-requires
+    natural-then-requires
     enum-known-a
     enum-told
     refusal-requires
@@ -153,10 +104,5 @@ output-line-spec =
     same-length
     returns-2
     literals-requires
-    enum-known-b
-    enum-told-3
     same-length-2
-    returns-3
-    end-line-requires
-    same-length-3
-    returns-4)
+    returns-3)

@@ -5,10 +5,9 @@ use mathlib.Core.List.{[], _∷_}
 use native.Mathlib.Omega.{arith}
 use Rattle.fields.specs.Tape.{listed}
 use Rattle.fields.proofs.Ahead.{nextNatural-far}
-use Rattle.fields.proofs.Taping.{wrote, stopped, on-fault, on-start, on-more, nextNatural-within}
+use Rattle.fields.proofs.Taping.{wrote, stopped, on-fault, on-start, on-more, on-last, nextNatural-within}
 use Rattle.aspif.specs.Grammar.{ruleLine}
 use Rattle.aspif.proofs.Coding.{literals-forth, head-forth, heads-few}
-use Rattle.aspif.proofs.Ending.{line-ends}
 use Rattle.aspif.proofs.rules.rule_line.Statement.{statement}
 use Rattle.aspif.proofs.rules.rule_line.Tie as tie
 
@@ -70,72 +69,24 @@ body-requires c κs =
     let rh = rw (c .before .before .h .given .1) at (c .before .before .before .before .before .before .heads .ensures .1) in
     (omega arith, rw (c .before .before .before .before .before .before .heads .kept .1 .1 .1 .0 ∙ c .before .before .before .before .before .before .before .before .before .before .begin-with .kept .0) (omega arith))
 
-enum-known-b : tie.Need-enum-known-b
-enum-known-b c = search needs
-
-enum-told-3 : tie.Need-enum-told-3
-enum-told-3 c = search needs
-
 same-length-2 : tie.Need-same-length-2
-same-length-2 c =
-    let begin-with = c .before .before .before .before .before .before .before .before .before .before .before .before .before .before .before .begin-with in
-    let heads = c .before .before .before .before .before .before .before .before .before .before .before .heads in
-    let body = c .before .before .before .before .body in
-    body .kept .1 .1 .0 ∙ heads .kept .1 .1 .1 .0 ∙ begin-with .kept .0
+same-length-2 c = c .before .before .body .kept .1 .1 .0 ∙ c .before .before .before .before .before .before .before .before .before .heads .kept .1 .1 .1 .0 ∙ c .before .before .before .before .before .before .before .before .before .before .before .before .before .begin-with .kept .0
 
 returns-3 : tie.Need-returns-3
 unfolding ruleLine
 returns-3 c =
-    let next-natural = c .before .before .before .before .before .before .before .before .before .before .before .before .before .before .before .before .before .before .before .before .next-natural in
-    let the-a = c .before .before .before .before .before .before .before .before .before .before .before .before .before .before .before .before .before .before .a in
-    let heads = c .before .before .before .before .before .before .before .before .before .before .before .heads in
-    let the-h = c .before .before .before .before .before .before .before .h in
-    let body = c .before .before .before .before .body in
-    let wh = wrote listed _ _ _ (rw (the-h .given .1) at (heads .ensures .0)) in
-    let qb = stopped listed _ _ _ (rw (c .enum-told3 .given .1) at (body .ensures .0)) in
-    (rw (c .enum-told3 .given .1, ← (next-natural .ensures), the-a .given .1, wh .is, qb) (on-fault _ _ _ _ _), body .ensures .1)
-
-end-line-requires : tie.Need-end-line-requires
-end-line-requires c κs =
-    let pre = c .before .before .before .before .before .before .before .before .before .before .before .before .before .before .before .before .before .before .before .before .before .before .before .before .pre in
-    let next-natural = c .before .before .before .before .before .before .before .before .before .before .before .before .before .before .before .before .before .before .before .before .before .next-natural in
-    let the-a = c .before .before .before .before .before .before .before .before .before .before .before .before .before .before .before .before .before .before .before .a in
-    let begin-with = c .before .before .before .before .before .before .before .before .before .before .before .before .before .before .before .before .begin-with in
-    let heads = c .before .before .before .before .before .before .before .before .before .before .before .before .heads in
-    let the-h = c .before .before .before .before .before .before .before .before .h in
-    let body = c .before .before .before .before .before .body in
-    let p = pre in
-    let ea = rw (the-a .given .1) at (next-natural .ensures) in
-    let fa = nextNatural-far _ _ _ _ .ends _ _ ea in
-    let nbeginwith = begin-with .ensures .1 in
-    let rh = rw (the-h .given .1) at (heads .ensures .1) in
-    let rb = rw (c .before .b .given .1) at (body .ensures .1) in
-    omega arith
-
-same-length-3 : tie.Need-same-length-3
-same-length-3 c =
-    let begin-with = c .before .before .before .before .before .before .before .before .before .before .before .before .before .before .before .before .before .begin-with in
-    let heads = c .before .before .before .before .before .before .before .before .before .before .before .before .before .heads in
-    let body = c .before .before .before .before .before .before .body in
-    body .kept .1 .1 .0 ∙ heads .kept .1 .1 .1 .0 ∙ begin-with .kept .0
-
-returns-4 : tie.Need-returns-4
-unfolding ruleLine
-returns-4 c =
-    let next-natural = c .before .before .before .before .before .before .before .before .before .before .before .before .before .before .before .before .before .before .before .before .before .before .next-natural in
-    let the-a = c .before .before .before .before .before .before .before .before .before .before .before .before .before .before .before .before .before .before .before .before .a in
-    let begin-with = c .before .before .before .before .before .before .before .before .before .before .before .before .before .before .before .before .before .begin-with in
-    let heads = c .before .before .before .before .before .before .before .before .before .before .before .before .before .heads in
-    let the-h = c .before .before .before .before .before .before .before .before .before .h in
-    let body = c .before .before .before .before .before .before .body in
-    let wh = wrote listed _ _ _ (rw (the-h .given .1) at (heads .ensures .0)) in
-    let wb = wrote listed _ _ _ (rw (c .before .before .b .given .1) at (body .ensures .0)) in
+    let next-natural = c .before .before .before .before .before .before .before .before .before .before .before .before .before .before .before .before .before .before .next-natural in
+    let the-a = c .before .before .before .before .before .before .before .before .before .before .before .before .before .before .before .before .a in
+    let begin-with = c .before .before .before .before .before .before .before .before .before .before .before .before .before .begin-with in
+    let heads = c .before .before .before .before .before .before .before .before .before .heads in
+    let body = c .before .before .body in
+    let wh = wrote listed _ _ _ (rw (c .before .before .before .before .before .h .given .1) at (heads .ensures .0)) in
     let ea = rw (the-a .given .1) at (next-natural .ensures) in
     let hw = head-forth _ (wh .value) (nextNatural-within _ _ _ _ _ _ ea) (heads-few _ _ _ _ _ (sym (wh .is))) in (
-      rw (← (next-natural .ensures), the-a .given .1, wh .is, wb .is) (c .end-line .ensures .0 _ ∙ line-ends _ _ _ _ _ _ _
-          (on-more _ _ _ (listed (wb .value)) (on-more _ _ _ (listed (wh .value)) (on-more _ _ _ (_ ∷ _ ∷ _ ∷ []) (on-start _ _) (begin-with .ensures .0) (begin-with .ensures .1)) (wh .tape) (wh .next)) (wb .tape) (wb .next))
-          (rw (hw, literals-forth))),
-      c .end-line .ensures .1,
+      rw (← (next-natural .ensures), the-a .given .1, wh .is) (body .ensures .0 ∙ on-last _ _ _ _ _ _
+          (on-more _ _ _ (listed (wh .value)) (on-more _ _ _ (_ ∷ _ ∷ _ ∷ []) (on-start _ _) (begin-with .ensures .0) (begin-with .ensures .1)) (wh .tape) (wh .next))
+          (λ ls. rw (hw, literals-forth))),
+      body .ensures .1,
     )
 
 pub rule-line-spec : {M : Type 1} → statement M
@@ -154,10 +105,5 @@ rule-line-spec =
     same-length
     returns-2
     body-requires
-    enum-known-b
-    enum-told-3
     same-length-2
-    returns-3
-    end-line-requires
-    same-length-3
-    returns-4)
+    returns-3)

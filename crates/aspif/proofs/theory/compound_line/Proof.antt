@@ -3,12 +3,10 @@ use borrow.Author.Needs.{needs}
 use mathlib.Core.Path.{_∙_}
 use mathlib.Core.List.{[], _∷_}
 use native.Mathlib.Omega.{arith}
-use Rattle.fields.specs.Tape.{listed}
 use Rattle.fields.proofs.Ahead.{nextTerm-far, nextInteger-far}
-use Rattle.fields.proofs.Taping.{wrote, stopped, on-fault, on-start, on-more}
+use Rattle.fields.proofs.Taping.{on-fault, on-start, on-more, on-last}
 use Rattle.aspif.specs.Grammar.{compoundLine}
 use Rattle.aspif.proofs.Coding.{integer-forth}
-use Rattle.aspif.proofs.Ending.{line-ends}
 use Rattle.aspif.proofs.theory.compound_line.Statement.{statement}
 use Rattle.aspif.proofs.theory.compound_line.Tie as tie
 
@@ -81,70 +79,24 @@ counted-requires c κs =
     let nput = put .ensures .1 in
     (omega arith, omega arith, rw (put .kept .0 ∙ begin-with .kept .0) (omega arith))
 
-enum-known-t : tie.Need-enum-known-t
-enum-known-t c = search needs
-
-enum-told-3 : tie.Need-enum-told-3
-enum-told-3 c = search needs
-
 same-length : tie.Need-same-length
-same-length c = c .before .before .before .before .counted .kept .1 .1 .1 .1 .1 .0 ∙ c .before .before .before .before .before .before .before .before .put .kept .0 ∙ c .before .before .before .before .before .before .before .before .before .before .before .before .begin-with .kept .0
+same-length c = c .before .before .counted .kept .1 .1 .1 .1 .1 .0 ∙ c .before .before .before .before .before .before .put .kept .0 ∙ c .before .before .before .before .before .before .before .before .before .before .begin-with .kept .0
 
 returns-3 : tie.Need-returns-3
 unfolding compoundLine
 returns-3 c =
-    let next-term = c .before .before .before .before .before .before .before .before .before .before .before .before .before .before .before .before .before .before .before .before .before .next-term in
-    let the-a = c .before .before .before .before .before .before .before .before .before .before .before .before .before .before .before .before .before .before .before .a in
-    let next-integer = c .before .before .before .before .before .before .before .before .before .before .before .before .before .before .before .before .before .next-integer in
-    let the-b = c .before .before .before .before .before .before .before .before .before .before .before .before .before .before .before .b in
-    let counted = c .before .before .before .before .counted in
-    let qt = stopped listed _ _ _ (rw (c .enum-told3 .given .1) at (counted .ensures .0)) in
-    (rw (c .enum-told3 .given .1, ← (next-term .ensures), the-a .given .1, ← (next-integer .ensures), the-b .given .1, qt) (on-fault _ _ _ _ _), counted .ensures .1)
-
-end-line-requires : tie.Need-end-line-requires
-end-line-requires c κs =
-    let pre = c .before .before .before .before .before .before .before .before .before .before .before .before .before .before .before .before .before .before .before .before .before .before .before .before .before .pre in
-    let next-term = c .before .before .before .before .before .before .before .before .before .before .before .before .before .before .before .before .before .before .before .before .before .before .next-term in
-    let the-a = c .before .before .before .before .before .before .before .before .before .before .before .before .before .before .before .before .before .before .before .before .a in
-    let next-integer = c .before .before .before .before .before .before .before .before .before .before .before .before .before .before .before .before .before .before .next-integer in
-    let the-b = c .before .before .before .before .before .before .before .before .before .before .before .before .before .before .before .before .b in
-    let begin-with = c .before .before .before .before .before .before .before .before .before .before .before .before .before .begin-with in
-    let put = c .before .before .before .before .before .before .before .before .before .put in
-    let counted = c .before .before .before .before .before .counted in
-    let p = pre in
-    let ea = rw (the-a .given .1) at (next-term .ensures) in
-    let fa = nextTerm-far _ _ .ends _ _ ea in
-    let eb = rw (the-b .given .1) at (next-integer .ensures) in
-    let fb = nextInteger-far _ _ _ _ .ends _ _ eb in
-    let nbeginwith = begin-with .ensures .1 in
-    let nput = put .ensures .1 in
-    let rt = rw (c .before .t .given .1) at (counted .ensures .1) in
-    omega arith
-
-same-length-2 : tie.Need-same-length-2
-same-length-2 c =
-    let begin-with = c .before .before .before .before .before .before .before .before .before .before .before .before .before .before .begin-with in
-    let put = c .before .before .before .before .before .before .before .before .before .before .put in
-    let counted = c .before .before .before .before .before .before .counted in
-    counted .kept .1 .1 .1 .1 .1 .0 ∙ put .kept .0 ∙ begin-with .kept .0
-
-returns-4 : tie.Need-returns-4
-unfolding compoundLine
-returns-4 c =
-    let next-term = c .before .before .before .before .before .before .before .before .before .before .before .before .before .before .before .before .before .before .before .before .before .before .before .next-term in
-    let the-a = c .before .before .before .before .before .before .before .before .before .before .before .before .before .before .before .before .before .before .before .before .before .a in
-    let next-integer = c .before .before .before .before .before .before .before .before .before .before .before .before .before .before .before .before .before .before .before .next-integer in
-    let the-b = c .before .before .before .before .before .before .before .before .before .before .before .before .before .before .before .before .before .b in
-    let begin-with = c .before .before .before .before .before .before .before .before .before .before .before .before .before .before .begin-with in
-    let put = c .before .before .before .before .before .before .before .before .before .before .put in
-    let counted = c .before .before .before .before .before .before .counted in
-    let wt = wrote listed _ _ _ (rw (c .before .before .t .given .1) at (counted .ensures .0)) in
-    let ea = rw (the-a .given .1) at (next-term .ensures) in
+    let next-term = c .before .before .before .before .before .before .before .before .before .before .before .before .before .before .before .before .before .before .before .next-term in
+    let the-a = c .before .before .before .before .before .before .before .before .before .before .before .before .before .before .before .before .before .a in
+    let next-integer = c .before .before .before .before .before .before .before .before .before .before .before .before .before .before .before .next-integer in
+    let the-b = c .before .before .before .before .before .before .before .before .before .before .before .before .before .b in
+    let begin-with = c .before .before .before .before .before .before .before .before .before .before .begin-with in
+    let put = c .before .before .before .before .before .before .put in
+    let counted = c .before .before .counted in
     let eb = rw (the-b .given .1) at (next-integer .ensures) in (
-      rw (← (next-term .ensures), the-a .given .1, ← (next-integer .ensures), the-b .given .1, wt .is) (c .end-line .ensures .0 _ ∙ line-ends _ _ _ _ _ _ _
-          (on-more _ _ _ (listed (wt .value)) (on-more _ _ _ (_ ∷ []) (on-more _ _ _ (_ ∷ _ ∷ _ ∷ []) (on-start _ _) (begin-with .ensures .0) (begin-with .ensures .1)) (put .ensures .0) (put .ensures .1)) (wt .tape) (wt .next))
-          (rw (integer-forth _ _ _ _ _ _ eb))),
-      c .end-line .ensures .1,
+      rw (← (next-term .ensures), the-a .given .1, ← (next-integer .ensures), the-b .given .1) (counted .ensures .0 ∙ on-last _ _ _ _ _ _
+          (on-more _ _ _ (_ ∷ []) (on-more _ _ _ (_ ∷ _ ∷ _ ∷ []) (on-start _ _) (begin-with .ensures .0) (begin-with .ensures .1)) (put .ensures .0) (put .ensures .1))
+          (λ us. rw (integer-forth _ _ _ _ _ _ eb))),
+      counted .ensures .1,
     )
 
 pub compound-line-spec : {M : Type 1} → statement M
@@ -164,10 +116,5 @@ compound-line-spec =
     begin-with-requires
     put-requires
     counted-requires
-    enum-known-t
-    enum-told-3
     same-length
-    returns-3
-    end-line-requires
-    same-length-2
-    returns-4)
+    returns-3)

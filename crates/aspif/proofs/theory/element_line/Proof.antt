@@ -5,10 +5,9 @@ use mathlib.Core.List.{[], _∷_}
 use native.Mathlib.Omega.{arith}
 use Rattle.fields.specs.Tape.{listed}
 use Rattle.fields.proofs.Ahead.{nextElement-far}
-use Rattle.fields.proofs.Taping.{wrote, stopped, on-fault, on-start, on-more}
+use Rattle.fields.proofs.Taping.{wrote, stopped, on-fault, on-start, on-more, on-last}
 use Rattle.aspif.specs.Grammar.{elementLine}
 use Rattle.aspif.proofs.Coding.{literals-forth}
-use Rattle.aspif.proofs.Ending.{line-ends}
 use Rattle.aspif.proofs.theory.element_line.Statement.{statement}
 use Rattle.aspif.proofs.theory.element_line.Tie as tie
 
@@ -70,70 +69,21 @@ literals-requires c κs =
     let rt = rw (c .before .before .t .given .1) at (c .before .before .before .before .before .before .counted .ensures .1) in
     (omega arith, rw (c .before .before .before .before .before .before .counted .kept .1 .1 .1 .1 .1 .0 ∙ c .before .before .before .before .before .before .before .before .before .before .begin-with .kept .0) (omega arith))
 
-enum-known-b : tie.Need-enum-known-b
-enum-known-b c = search needs
-
-enum-told-3 : tie.Need-enum-told-3
-enum-told-3 c = search needs
-
 same-length-2 : tie.Need-same-length-2
-same-length-2 c =
-    let begin-with = c .before .before .before .before .before .before .before .before .before .before .before .before .before .before .before .begin-with in
-    let counted = c .before .before .before .before .before .before .before .before .before .before .before .counted in
-    let literals = c .before .before .before .before .literals in
-    literals .kept .1 .1 .0 ∙ counted .kept .1 .1 .1 .1 .1 .0 ∙ begin-with .kept .0
+same-length-2 c = c .before .before .literals .kept .1 .1 .0 ∙ c .before .before .before .before .before .before .before .before .before .counted .kept .1 .1 .1 .1 .1 .0 ∙ c .before .before .before .before .before .before .before .before .before .before .before .before .before .begin-with .kept .0
 
 returns-3 : tie.Need-returns-3
 unfolding elementLine
 returns-3 c =
-    let next-element = c .before .before .before .before .before .before .before .before .before .before .before .before .before .before .before .before .before .before .before .before .next-element in
-    let the-a = c .before .before .before .before .before .before .before .before .before .before .before .before .before .before .before .before .before .before .a in
-    let counted = c .before .before .before .before .before .before .before .before .before .before .before .counted in
-    let the-t = c .before .before .before .before .before .before .before .t in
-    let literals = c .before .before .before .before .literals in
-    let wt = wrote listed _ _ _ (rw (the-t .given .1) at (counted .ensures .0)) in
-    let qb = stopped listed _ _ _ (rw (c .enum-told3 .given .1) at (literals .ensures .0)) in
-    (rw (c .enum-told3 .given .1, ← (next-element .ensures), the-a .given .1, wt .is, qb) (on-fault _ _ _ _ _), literals .ensures .1)
-
-end-line-requires : tie.Need-end-line-requires
-end-line-requires c κs =
-    let pre = c .before .before .before .before .before .before .before .before .before .before .before .before .before .before .before .before .before .before .before .before .before .before .before .before .pre in
-    let next-element = c .before .before .before .before .before .before .before .before .before .before .before .before .before .before .before .before .before .before .before .before .before .next-element in
-    let the-a = c .before .before .before .before .before .before .before .before .before .before .before .before .before .before .before .before .before .before .before .a in
-    let begin-with = c .before .before .before .before .before .before .before .before .before .before .before .before .before .before .before .before .begin-with in
-    let counted = c .before .before .before .before .before .before .before .before .before .before .before .before .counted in
-    let the-t = c .before .before .before .before .before .before .before .before .t in
-    let literals = c .before .before .before .before .before .literals in
-    let p = pre in
-    let ea = rw (the-a .given .1) at (next-element .ensures) in
-    let fa = nextElement-far _ _ .ends _ _ ea in
-    let nbeginwith = begin-with .ensures .1 in
-    let rt = rw (the-t .given .1) at (counted .ensures .1) in
-    let rb = rw (c .before .b .given .1) at (literals .ensures .1) in
-    omega arith
-
-same-length-3 : tie.Need-same-length-3
-same-length-3 c =
-    let begin-with = c .before .before .before .before .before .before .before .before .before .before .before .before .before .before .before .before .before .begin-with in
-    let counted = c .before .before .before .before .before .before .before .before .before .before .before .before .before .counted in
-    let literals = c .before .before .before .before .before .before .literals in
-    literals .kept .1 .1 .0 ∙ counted .kept .1 .1 .1 .1 .1 .0 ∙ begin-with .kept .0
-
-returns-4 : tie.Need-returns-4
-unfolding elementLine
-returns-4 c =
-    let next-element = c .before .before .before .before .before .before .before .before .before .before .before .before .before .before .before .before .before .before .before .before .before .before .next-element in
-    let the-a = c .before .before .before .before .before .before .before .before .before .before .before .before .before .before .before .before .before .before .before .before .a in
-    let begin-with = c .before .before .before .before .before .before .before .before .before .before .before .before .before .before .before .before .before .begin-with in
-    let counted = c .before .before .before .before .before .before .before .before .before .before .before .before .before .counted in
-    let the-t = c .before .before .before .before .before .before .before .before .before .t in
-    let literals = c .before .before .before .before .before .before .literals in
-    let wt = wrote listed _ _ _ (rw (the-t .given .1) at (counted .ensures .0)) in
-    let wb = wrote listed _ _ _ (rw (c .before .before .b .given .1) at (literals .ensures .0)) in (
-      rw (← (next-element .ensures), the-a .given .1, wt .is, wb .is) (c .end-line .ensures .0 _ ∙ line-ends _ _ _ _ _ _ _
-          (on-more _ _ _ (listed (wb .value)) (on-more _ _ _ (listed (wt .value)) (on-more _ _ _ (_ ∷ _ ∷ _ ∷ []) (on-start _ _) (begin-with .ensures .0) (begin-with .ensures .1)) (wt .tape) (wt .next)) (wb .tape) (wb .next))
-          (rw literals-forth)),
-      c .end-line .ensures .1,
+    let next-element = c .before .before .before .before .before .before .before .before .before .before .before .before .before .before .before .before .before .before .next-element in
+    let the-a = c .before .before .before .before .before .before .before .before .before .before .before .before .before .before .before .before .a in
+    let begin-with = c .before .before .before .before .before .before .before .before .before .before .before .before .before .begin-with in
+    let literals = c .before .before .literals in
+    let wt = wrote listed _ _ _ (rw (c .before .before .before .before .before .t .given .1) at (c .before .before .before .before .before .before .before .before .before .counted .ensures .0)) in (
+      rw (← (next-element .ensures), the-a .given .1, wt .is) (literals .ensures .0 ∙ on-last _ _ _ _ _ _
+          (on-more _ _ _ (listed (wt .value)) (on-more _ _ _ (_ ∷ _ ∷ _ ∷ []) (on-start _ _) (begin-with .ensures .0) (begin-with .ensures .1)) (wt .tape) (wt .next))
+          (λ ls. rw literals-forth)),
+      literals .ensures .1,
     )
 
 pub element-line-spec : {M : Type 1} → statement M
@@ -152,10 +102,5 @@ element-line-spec =
     same-length
     returns-2
     literals-requires
-    enum-known-b
-    enum-told-3
     same-length-2
-    returns-3
-    end-line-requires
-    same-length-3
-    returns-4)
+    returns-3)

@@ -1,12 +1,11 @@
 -- `aspif::theory::front` meets its contract: its elements stand behind its first words. Assumes nothing.
 use borrow.Author.Needs.{needs}
-use mathlib.Core.Path.{_∙_}
+use mathlib.Core.Path.{refl, _∙_}
 use mathlib.Core.List.{[], _∷_}
 use native.Mathlib.Omega.{arith}
 use Rattle.fields.proofs.Ahead.{nextTerm-far, nextAtom-far}
-use Rattle.fields.proofs.Taping.{on-fault, on-start, on-more}
+use Rattle.fields.proofs.Taping.{on-fault, on-start, on-more, on-last}
 use Rattle.aspif.specs.Grammar.{front}
-use Rattle.aspif.proofs.Ending.{front-ends}
 use Rattle.aspif.proofs.theory.front.Statement.{statement}
 use Rattle.aspif.proofs.theory.front.Tie as tie
 
@@ -84,8 +83,9 @@ returns-3 c =
     let begin-with = c .before .before .before .before .before .before .before .before .before .before .begin-with in
     let put = c .before .before .before .before .before .before .put in
     let counted = c .before .before .counted in (
-      rw (← (next-atom .ensures), the-a .given .1, ← (next-term .ensures), the-b .given .1) (counted .ensures .0 ∙ front-ends _ _ _ _ _ _ _
-          (on-more _ _ _ (_ ∷ []) (on-more _ _ _ (_ ∷ _ ∷ _ ∷ []) (on-start _ _) (begin-with .ensures .0) (begin-with .ensures .1)) (put .ensures .0) (put .ensures .1))),
+      rw (← (next-atom .ensures), the-a .given .1, ← (next-term .ensures), the-b .given .1) (counted .ensures .0 ∙ on-last _ _ _ _ _ _
+          (on-more _ _ _ (_ ∷ []) (on-more _ _ _ (_ ∷ _ ∷ _ ∷ []) (on-start _ _) (begin-with .ensures .0) (begin-with .ensures .1)) (put .ensures .0) (put .ensures .1))
+          (λ vs. refl)),
       counted .ensures .1,
     )
 

@@ -4,9 +4,8 @@ use mathlib.Core.Path.{_∙_}
 use mathlib.Core.List.{[], _∷_, append-assoc}
 use native.Mathlib.Omega.{arith}
 use Rattle.fields.proofs.Ahead.{nextTerm-far}
-use Rattle.fields.proofs.Taping.{wrote, stopped, on-fault, on-start, on-more}
+use Rattle.fields.proofs.Taping.{wrote, stopped, on-fault, on-start, on-more, on-found}
 use Rattle.aspif.specs.Grammar.{guardedLine}
-use Rattle.aspif.proofs.Ending.{line-ends}
 use Rattle.aspif.specs.Words.{frontWords}
 use Rattle.aspif.proofs.theory.guarded_line.Statement.{statement}
 use Rattle.aspif.proofs.theory.guarded_line.Tie as tie
@@ -110,9 +109,13 @@ put-requires-2 c κs =
     let nput = put .ensures .1 in
     rw (put .kept .0 ∙ front .kept .1 .1 .1 .1 .0) (omega arith)
 
-end-line-requires : tie.Need-end-line-requires
-end-line-requires c κs =
-    let pre = c .before .before .before .before .before .before .before .before .before .before .before .before .before .before .before .before .before .before .before .before .before .before .before .before .before .pre in
+same-length-4 : tie.Need-same-length-4
+same-length-4 c = c .before .before .put2 .kept .0 ∙ c .before .before .before .before .before .before .put .kept .0 ∙ c .before .before .before .before .before .before .before .before .before .before .before .before .before .before .before .before .before .before .before .before .before .front .kept .1 .1 .1 .1 .0
+
+returns-4 : tie.Need-returns-4
+unfolding guardedLine
+returns-4 c =
+    let args = c .before .before .before .before .before .before .before .before .before .before .before .before .before .before .before .before .before .before .before .before .before .before .before .before .before .args in
     let front = c .before .before .before .before .before .before .before .before .before .before .before .before .before .before .before .before .before .before .before .before .before .front in
     let the-t = c .before .before .before .before .before .before .before .before .before .before .before .before .before .before .before .before .before .t in
     let next-term = c .before .before .before .before .before .before .before .before .before .before .before .before .before .before .before .next-term in
@@ -120,39 +123,20 @@ end-line-requires c κs =
     let next-term2 = c .before .before .before .before .before .before .before .before .before .before .before .next-term2 in
     let the-b = c .before .before .before .before .before .before .before .before .before .b in
     let put = c .before .before .before .before .before .before .put in
-    let p = pre in
+    let put2 = c .before .before .put2 in
+    let p = c .before .before .before .before .before .before .before .before .before .before .before .before .before .before .before .before .before .before .before .before .before .before .before .before .before .pre in
+    let wt = wrote (frontWords 96 (args .place)) _ _ _ (rw (the-t .given .1) at (front .ensures .0)) in
     let rt = rw (the-t .given .1) at (front .ensures .1) in
     let ea = rw (the-a .given .1) at (next-term .ensures) in
     let fa = nextTerm-far _ _ .ends _ _ ea in
     let eb = rw (the-b .given .1) at (next-term2 .ensures) in
     let fb = nextTerm-far _ _ .ends _ _ eb in
     let nput = put .ensures .1 in
-    let nput2 = c .before .before .put2 .ensures .1 in
-    omega arith
-
-same-length-4 : tie.Need-same-length-4
-same-length-4 c =
-    let front = c .before .before .before .before .before .before .before .before .before .before .before .before .before .before .before .before .before .before .before .before .before .before .front in
-    let put = c .before .before .before .before .before .before .before .put in
-    c .before .before .before .put2 .kept .0 ∙ put .kept .0 ∙ front .kept .1 .1 .1 .1 .0
-
-returns-4 : tie.Need-returns-4
-unfolding guardedLine
-returns-4 c =
-    let args = c .before .before .before .before .before .before .before .before .before .before .before .before .before .before .before .before .before .before .before .before .before .before .before .before .before .before .args in
-    let front = c .before .before .before .before .before .before .before .before .before .before .before .before .before .before .before .before .before .before .before .before .before .before .front in
-    let the-t = c .before .before .before .before .before .before .before .before .before .before .before .before .before .before .before .before .before .before .t in
-    let next-term = c .before .before .before .before .before .before .before .before .before .before .before .before .before .before .before .before .next-term in
-    let the-a = c .before .before .before .before .before .before .before .before .before .before .before .before .before .before .a in
-    let next-term2 = c .before .before .before .before .before .before .before .before .before .before .before .before .next-term2 in
-    let the-b = c .before .before .before .before .before .before .before .before .before .before .b in
-    let put = c .before .before .before .before .before .before .before .put in
-    let put2 = c .before .before .before .put2 in
-    let wt = wrote (frontWords 96 (args .place)) _ _ _ (rw (the-t .given .1) at (front .ensures .0)) in (
-      rw (wt .is, ← (next-term .ensures), the-a .given .1, ← (next-term2 .ensures), the-b .given .1) (c .end-line .ensures .0 _ ∙ line-ends _ _ _ _ _ _ _
+    let nput2 = put2 .ensures .1 in (
+      rw (wt .is, ← (next-term .ensures), the-a .given .1, ← (next-term2 .ensures), the-b .given .1) (on-found _ _ _ _ _ _
           (on-more _ _ _ (_ ∷ []) (on-more _ _ _ (_ ∷ []) (on-more _ _ _ (frontWords 96 (args .place) (wt .value)) (on-start _ _) (wt .tape) (wt .next)) (put .ensures .0) (put .ensures .1)) (put2 .ensures .0) (put2 .ensures .1))
           (rw append-assoc)),
-      c .end-line .ensures .1,
+      omega arith,
     )
 
 pub guarded-line-spec : {M : Type 1} → statement M
@@ -178,6 +162,5 @@ guarded-line-spec =
     returns-3
     put-requires
     put-requires-2
-    end-line-requires
     same-length-4
     returns-4)

@@ -1,13 +1,12 @@
--- `aspif::theory::numeric_line` meets its contract: two fields, then their words and the line end. Assumes nothing.
+-- `aspif::theory::numeric_line` meets its contract: two fields, then their words. Assumes nothing.
 use borrow.Author.Needs.{needs}
 use mathlib.Core.Path.{_∙_}
 use mathlib.Core.List.{[], _∷_}
 use native.Mathlib.Omega.{arith}
 use Rattle.fields.proofs.Ahead.{nextTerm-far, nextInteger-far}
-use Rattle.fields.proofs.Taping.{on-fault, on-start, on-more}
+use Rattle.fields.proofs.Taping.{on-fault, on-start, on-more, on-found}
 use Rattle.aspif.specs.Grammar.{numericLine}
 use Rattle.aspif.proofs.Coding.{integer-forth}
-use Rattle.aspif.proofs.Ending.{line-ends}
 use Rattle.aspif.proofs.theory.numeric_line.Statement.{statement}
 use Rattle.aspif.proofs.theory.numeric_line.Tie as tie
 
@@ -62,35 +61,29 @@ put-requires c κs =
     let nbeginwith = c .before .before .before .begin-with .ensures .1 in
     rw (c .before .before .before .begin-with .kept .0) (omega arith)
 
-end-line-requires : tie.Need-end-line-requires
-end-line-requires c κs =
-    let p = c .before .before .before .before .before .before .before .before .before .before .before .before .before .before .before .before .before .before .pre in
-    let ea = rw (c .before .before .before .before .before .before .before .before .before .before .before .before .before .a .given .1) at (c .before .before .before .before .before .before .before .before .before .before .before .before .before .before .before .next-term .ensures) in
-    let fa = nextTerm-far _ _ .ends _ _ ea in
-    let eb = rw (c .before .before .before .before .before .before .before .before .before .b .given .1) at (c .before .before .before .before .before .before .before .before .before .before .before .next-integer .ensures) in
-    let fb = nextInteger-far _ _ _ _ .ends _ _ eb in
-    let nbeginwith = c .before .before .before .before .before .before .begin-with .ensures .1 in
-    let nput = c .before .before .put .ensures .1 in
-    omega arith
-
 same-length : tie.Need-same-length
-same-length c = c .before .before .before .put .kept .0 ∙ c .before .before .before .before .before .before .before .begin-with .kept .0
+same-length c = c .before .before .put .kept .0 ∙ c .before .before .before .before .before .before .begin-with .kept .0
 
 returns-3 : tie.Need-returns-3
 unfolding numericLine
 returns-3 c =
-    let next-term = c .before .before .before .before .before .before .before .before .before .before .before .before .before .before .before .before .next-term in
-    let the-a = c .before .before .before .before .before .before .before .before .before .before .before .before .before .before .a in
-    let next-integer = c .before .before .before .before .before .before .before .before .before .before .before .before .next-integer in
-    let the-b = c .before .before .before .before .before .before .before .before .before .before .b in
-    let begin-with = c .before .before .before .before .before .before .before .begin-with in
-    let put = c .before .before .before .put in
+    let next-term = c .before .before .before .before .before .before .before .before .before .before .before .before .before .before .before .next-term in
+    let the-a = c .before .before .before .before .before .before .before .before .before .before .before .before .before .a in
+    let next-integer = c .before .before .before .before .before .before .before .before .before .before .before .next-integer in
+    let the-b = c .before .before .before .before .before .before .before .before .before .b in
+    let begin-with = c .before .before .before .before .before .before .begin-with in
+    let put = c .before .before .put in
+    let p = c .before .before .before .before .before .before .before .before .before .before .before .before .before .before .before .before .before .before .pre in
     let ea = rw (the-a .given .1) at (next-term .ensures) in
-    let eb = rw (the-b .given .1) at (next-integer .ensures) in (
-      rw (← (next-term .ensures), the-a .given .1, ← (next-integer .ensures), the-b .given .1) (c .end-line .ensures .0 _ ∙ line-ends _ _ _ _ _ _ _
+    let fa = nextTerm-far _ _ .ends _ _ ea in
+    let eb = rw (the-b .given .1) at (next-integer .ensures) in
+    let fb = nextInteger-far _ _ _ _ .ends _ _ eb in
+    let nbeginwith = begin-with .ensures .1 in
+    let nput = put .ensures .1 in (
+      rw (← (next-term .ensures), the-a .given .1, ← (next-integer .ensures), the-b .given .1) (on-found _ _ _ _ _ _
           (on-more _ _ _ (_ ∷ []) (on-more _ _ _ (_ ∷ _ ∷ _ ∷ []) (on-start _ _) (begin-with .ensures .0) (begin-with .ensures .1)) (put .ensures .0) (put .ensures .1))
           (rw (integer-forth _ _ _ _ _ _ eb))),
-      c .end-line .ensures .1,
+      omega arith,
     )
 
 pub numeric-line-spec : {M : Type 1} → statement M
@@ -109,6 +102,5 @@ numeric-line-spec =
     returns-2
     begin-with-requires
     put-requires
-    end-line-requires
     same-length
     returns-3)

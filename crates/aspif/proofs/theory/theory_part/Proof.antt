@@ -3,7 +3,7 @@ use borrow.Author.Needs.{needs}
 use native.Mathlib.Omega.{arith}
 use Rattle.fields.specs.Tape.{onTape}
 use Rattle.aspif.specs.Grammar.{theoryPart}
-use Rattle.aspif.proofs.Ending.{theoryType-ahead}
+use Rattle.aspif.proofs.Selectors.{theoryType-ahead}
 use Rattle.aspif.proofs.theory.theory_part.Statement.{statement}
 use Rattle.aspif.proofs.theory.theory_part.Tie as tie
 

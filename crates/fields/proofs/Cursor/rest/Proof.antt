@@ -8,13 +8,14 @@ use Rattle.fields.proofs.Naturals.{plain-within}
 use Rattle.fields.proofs.Cursor.rest.Statement.{statement}
 use Rattle.fields.proofs.Cursor.rest.Tie as tie
 
-rest-end-requires : tie.Need-rest-end-requires
-rest-end-requires c κs = search needs
+run-end-requires : tie.Need-run-end-requires
+run-end-requires c κs = search needs
 
 sub-size : tie.Need-sub-size
 sub-size c = search needs
 
 cast-n : tie.Need-cast-n
+unfolding plain
 cast-n c = omega (arith, plain-within (c .before .before .before .args .s .now) (c .before .before .before .args .self .at) (c .before .before .before .pre .1))
 
 listed-requires : tie.Need-listed-requires
@@ -24,15 +25,15 @@ same-length : tie.Need-same-length
 same-length c = search needs
 
 returns : tie.Need-returns
-unfolding rest
+unfolding rest plain
 returns c =
     let args = c .before .before .before .before .before .before .before .args in
-    let rest-end = c .before .before .before .before .rest-end in
+    let run-end = c .before .before .before .before .run-end in
     let listed = c .before .before .listed in
-    let e : rest-end .result - args .self .at ≡ plain (args .s .now) (args .self .at) = omega arith in
+    let e : run-end .result - args .self .at ≡ plain (args .s .now) (args .self .at) = omega arith in
     (rw (← e) (listed .ensures .0), listed .ensures .1)
 
 pub rest-spec : {M : Type 1} → statement M
 rest-spec =
     tie.close
-    (tie.spec rest-end-requires sub-size cast-n listed-requires same-length returns)
+    (tie.spec run-end-requires sub-size cast-n listed-requires same-length returns)

@@ -1,70 +1,16 @@
--- `fields::field_end` meets its contract. The invariant: the field's end, reckoned from `i`, is the end that is asked.
--- Assumes nothing.
-use Prim.Native.Nat.{_+_, _-_}
-use mathlib.Core.Path.{_≡_, refl, ap}
-use native.Mathlib.Omega.{arith}
+-- `fields::digits::field_end` meets its contract. Assumes nothing.
 use borrow.Author.Needs.{needs}
-use borrow.Author.Tests.{eq-eqb, ne-eqb}
-use lib.ListN.{length}
-use Rattle.fields.proofs.Runs.{run-out, run-stop, run-more}
-use Rattle.fields.specs.Fields.{field, isSeparator}
+use Rattle.fields.specs.Fields.{field}
 use Rattle.fields.proofs.digits.field_end.Statement.{statement}
 use Rattle.fields.proofs.digits.field_end.Tie as tie
 
-abbrev Inv-loop : tie.InvT-loop
-Inv-loop s at i₀ i = i + length (field s i) ≡ at + length (field s at)
+run-end-requires : tie.Need-run-end-requires
+run-end-requires c κs = search needs
 
-abbrev μ-loop : tie.MeasureT-loop
-μ-loop s at i₀ i = length s - i
-
-loop-holds : tie.Need-loop-holds Inv-loop μ-loop
-loop-holds c = refl
-
-shared-slice-read-b : tie.Need-shared-slice-read-b Inv-loop μ-loop
-shared-slice-read-b c = search needs
-
-returns : tie.Need-returns Inv-loop μ-loop
+returns : tie.Need-returns
 unfolding field
-returns c =
-    let i = c .before .before .before .loop .i in
-    let s = c .before .before .before .before .args .s .now in
-    omega (arith, ap length (run-stop isSeparator s i (search needs) (simp (eq-eqb _ _ (c .if1 .taken)))))
-
-returns-2 : tie.Need-returns-2 Inv-loop μ-loop
-unfolding field
-returns-2 c =
-    let i = c .before .before .before .before .loop .i in
-    let s = c .before .before .before .before .before .args .s .now in
-    omega (arith, ap length (run-stop isSeparator s i (search needs) (simp (ne-eqb _ _ (c .before .if1 .left), eq-eqb _ _ (c .if2 .taken)))))
-
-add-i : tie.Need-add-i Inv-loop μ-loop
-add-i c = search needs
-
-loop-less : tie.Need-loop-less Inv-loop μ-loop
-loop-less c = search needs
-
-loop-again : tie.Need-loop-again Inv-loop μ-loop
-unfolding field
-loop-again c =
-    let i = c .before .before .before .before .loop .i in
-    let s = c .before .before .before .before .before .args .s .now in
-    omega (arith, ap length (run-more isSeparator s i (search needs) (simp (ne-eqb _ _ (c .before .if1 .left), ne-eqb _ _ (c .if2 .left)))))
-
-returns-3 : tie.Need-returns-3 Inv-loop μ-loop
-unfolding field
-returns-3 c = omega (arith, ap length (run-out isSeparator (c .before .before .args .s .now) (c .before .loop .i) (search needs)))
+returns c = c .run-end .ensures
 
 pub field-end-spec : {M : Type 1} → statement M
 field-end-spec =
-    tie.close
-    (tie.spec
-    Inv-loop
-    μ-loop
-    loop-holds
-    shared-slice-read-b
-    returns
-    returns-2
-    add-i
-    loop-less
-    loop-again
-    returns-3)
+    tie.close (tie.spec run-end-requires returns)

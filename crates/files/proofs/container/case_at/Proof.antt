@@ -5,15 +5,21 @@ use borrow.Author.Needs.{needs}
 use borrow.Author.Tests.{eq-eqb, ne-eqb}
 use Rattle.fields.specs.Values.{asWord}
 use Rattle.files.specs.Cases.{caseAt}
-use Rattle.files.proofs.Cases.{length-in}
+use Rattle.files.proofs.Cases.{name-end, length-in}
 use Rattle.files.proofs.container.case_at.Statement.{statement}
 use Rattle.files.proofs.container.case_at.Tie as tie
 
-field-end-requires : tie.Need-field-end-requires
-field-end-requires c κs = search needs
+start-requires : tie.Need-start-requires
+start-requires c κs = search needs
 
-case-length-requires : tie.Need-case-length-requires
-case-length-requires c κs = search needs
+ahead-requires : tie.Need-ahead-requires
+ahead-requires c κs = search needs
+
+past-field-requires : tie.Need-past-field-requires
+past-field-requires c κs = search needs
+
+natural-then-requires : tie.Need-natural-then-requires
+natural-then-requires c κs = search needs
 
 enum-known-a : tie.Need-enum-known-a
 enum-known-a c = search needs
@@ -23,36 +29,38 @@ enum-told c = search needs
 
 returns : tie.Need-returns
 unfolding caseAt
-returns c = rw (← (c .before .before .before .field-end .ensures), ← (c .before .before .case-length .ensures), c .enum-told .given .1)
+returns c = rw (← name-end (c .before .before .before .before .before .before .before .args .s .now) (c .before .before .before .before .before .before .before .args .at) (c .before .before .before .before .before .start .ensures) (c .before .before .before .before .ahead .ensures) (c .before .before .before .past-field .ensures), ← (c .before .before .natural-then .ensures), c .enum-told .given .1)
 
 cast-size : tie.Need-cast-size
 cast-size c = search needs
 
-add-end : tie.Need-add-end
-add-end c = omega (arith, length-in _ _ (sym (ap asWord (c .before .a .given .1)) ∙ c .before .before .before .case-length .ensures))
+ahead-requires-2 : tie.Need-ahead-requires-2
+ahead-requires-2 c κs = omega (arith, length-in _ _ (sym (ap asWord (c .before .a .given .1)) ∙ c .before .before .before .natural-then .ensures))
 
 look-requires : tie.Need-look-requires
 look-requires c κs = search needs
 
 returns-2 : tie.Need-returns-2
 unfolding caseAt
-returns-2 c = rw (← (c .before .before .before .before .before .before .field-end .ensures), ← (c .before .before .before .before .before .case-length .ensures), c .before .before .before .a .given .1, ← (c .before .look .ensures), ne-eqb _ _ (c .if1 .taken))
+returns-2 c = rw (← name-end (c .before .before .before .before .before .before .before .before .before .before .before .args .s .now) (c .before .before .before .before .before .before .before .before .before .before .before .args .at) (c .before .before .before .before .before .before .before .before .before .start .ensures) (c .before .before .before .before .before .before .before .before .ahead .ensures) (c .before .before .before .before .before .before .before .past-field .ensures), ← (c .before .before .before .before .before .before .natural-then .ensures), c .before .before .before .before .a .given .1, ← (c .before .before .ahead2 .ensures), ← (c .before .look .ensures), ne-eqb _ _ (c .if1 .taken))
 
 returns-3 : tie.Need-returns-3
 unfolding caseAt
-returns-3 c = rw (← (c .before .before .before .before .before .before .field-end .ensures), ← (c .before .before .before .before .before .case-length .ensures), c .before .before .before .a .given .1, ← (c .before .look .ensures), eq-eqb _ _ (c .if1 .left))
+returns-3 c = rw (← name-end (c .before .before .before .before .before .before .before .before .before .before .before .args .s .now) (c .before .before .before .before .before .before .before .before .before .before .before .args .at) (c .before .before .before .before .before .before .before .before .before .start .ensures) (c .before .before .before .before .before .before .before .before .ahead .ensures) (c .before .before .before .before .before .before .before .past-field .ensures), ← (c .before .before .before .before .before .before .natural-then .ensures), c .before .before .before .before .a .given .1, ← (c .before .before .ahead2 .ensures), ← (c .before .look .ensures), eq-eqb _ _ (c .if1 .left))
 
 pub case-at-spec : {M : Type 1} → statement M
 case-at-spec =
     tie.close
     (tie.spec
-    field-end-requires
-    case-length-requires
+    start-requires
+    ahead-requires
+    past-field-requires
+    natural-then-requires
     enum-known-a
     enum-told
     returns
     cast-size
-    add-end
+    ahead-requires-2
     look-requires
     returns-2
     returns-3)

@@ -1,7 +1,7 @@
 -- `judge::show::part_from` meets its contract. Assumes nothing.
 use mathlib.Core.Path.{sym, _∙_}
 use native.Mathlib.Omega.{arith}
-use Rattle.judge.proofs.Parts.{part-out, part-within, part-between, behind-end}
+use Rattle.judge.proofs.Parts.{part-out, part-end, part-within, part-between, behind-end}
 use borrow.Author.Needs.{needs}
 use Rattle.judge.proofs.show.part_from.Statement.{statement}
 use Rattle.judge.proofs.show.part_from.Tie as tie
@@ -16,10 +16,10 @@ part-result-end : tie.Need-part-result-end
 part-result-end c = search needs
 
 returns : tie.Need-returns
-returns c = behind-end (c .before .before .before .args .s .now) ∙ sym (part-out _ _ (c .before .if1 .taken))
+returns c = record { bytes = behind-end (c .before .before .before .args .s .now) ∙ sym (part-out _ _ (c .before .if1 .taken)); block = search needs; offset = search needs }
 
-line-end-requires : tie.Need-line-end-requires
-line-end-requires c κs = search needs
+run-end-requires : tie.Need-run-end-requires
+run-end-requires c κs = search needs
 
 sub-result-2 : tie.Need-sub-result-2
 sub-result-2 c = search needs
@@ -28,10 +28,10 @@ part-result-start-2 : tie.Need-part-result-start-2
 part-result-start-2 c = search needs
 
 part-result-end-2 : tie.Need-part-result-end-2
-part-result-end-2 c = let g = part-within (c .before .before .before .args .s .now) (c .before .before .before .args .place) (omega (arith, c .before .if1 .left)) in search needs
+part-result-end-2 c = let g = part-within (c .before .before .before .args .s .now) (c .before .before .before .args .place) (omega (arith, c .before .if1 .left)) in omega (arith, part-end _ _ (c .run-end .ensures))
 
 returns-2 : tie.Need-returns-2
-returns-2 c = part-between _ _ _ (c .before .line-end .ensures)
+returns-2 c = record { bytes = part-between _ _ _ (part-end _ _ (c .before .run-end .ensures)); block = search needs; offset = search needs }
 
 pub part-from-spec : {M : Type 1} → statement M
 part-from-spec =
@@ -41,7 +41,7 @@ part-from-spec =
     part-result-start
     part-result-end
     returns
-    line-end-requires
+    run-end-requires
     sub-result-2
     part-result-start-2
     part-result-end-2

@@ -1,14 +1,13 @@
--- `timed`: the parts of the rooms that `gather` filled are the differences in force, whatever lines state them.
+-- `timed`: the front parts that `gather` left are the differences in force, whatever lines state them.
 use Prim.Native.Nat.{ℕ}
 use mathlib.Core.Path.{sym, _∙_}
 use native.Mathlib.Omega.{arith}
-use borrow.Author.Needs.{needs}
-use lib.IntN.{pos}
 use lib.ListN.{length-replicate}
-use Rattle.judge.proofs.Blank.{blank-places, kept-places, part-long}
-use Rattle.judge.proofs.Gathering.{gathered-labelled}
 use Rattle.terms.proofs.Witness.{new-marks}
+use Rattle.judge.proofs.Blank.{part-long, still-roomy}
+use Rattle.judge.proofs.Gathering.{gathered-labelled}
 use Rattle.judge.proofs.Settling.{settled-timed}
+use borrow.Author.Needs.{needs}
 use Rattle.judge.proofs.timed.timed.Statement.{statement}
 use Rattle.judge.proofs.timed.timed.Tie as tie
 
@@ -17,71 +16,61 @@ slice-aggregate-mark-names c = search needs
 
 mark-names-requires : tie.Need-mark-names-requires
 mark-names-requires c κs =
-    let f = c .before .before .before .before .before .before .before .pre .0 .0 in
+    let f = c .before .before .before .before .before .before .before .before .before .pre .0 .0 in
     (omega (arith, f .few, f .roomy .for-xs), omega (arith, f .few, f .roomy .for-ys), new-marks 1024)
 
-slice-aggregate-gather : tie.Need-slice-aggregate-gather
-slice-aggregate-gather c = search needs
-
-slice-aggregate-gather-2 : tie.Need-slice-aggregate-gather-2
-slice-aggregate-gather-2 c = search needs
-
-slice-aggregate-gather-3 : tie.Need-slice-aggregate-gather-3
-slice-aggregate-gather-3 c = search needs
-
-slice-aggregate-gather-4 : tie.Need-slice-aggregate-gather-4
-slice-aggregate-gather-4 c = search needs
-
 gather-requires : tie.Need-gather-requires
-gather-requires c κs = (c .before .before .before .before .before .before .before .before .before .before .before .before .before .pre .0, blank-places)
+gather-requires c κs = c .before .before .before .before .before .before .before .before .before .before .before .before .before .before .before .pre .0
 
-array-share-prefix-ls : tie.Need-array-share-prefix-ls
-array-share-prefix-ls c = search needs
+slice-reshare-prefix-settled : tie.Need-slice-reshare-prefix-settled
+slice-reshare-prefix-settled c =
+    let f = c .before .before .before .before .before .before .before .before .before .before .before .before .before .before .before .before .before .before .before .before .before .before .before .pre .0 .0 in
+    omega (arith, c .before .before .before .before .before .before .before .gather .kept .0, c .before .before .before .before .before .before .before .gather .ensures .few, f .few, f .roomy .for-atoms)
 
 slice-aggregate-settled : tie.Need-slice-aggregate-settled
 slice-aggregate-settled c =
-    let pre = c .before .before .before .before .before .before .before .before .before .before .before .before .before .before .before .before .before .before .before .pre in
-    let gather = c .before .before .before .before .before .gather in
-    part-long {A = ℕ} 0 _ _ _ (gather .kept .1 .1 .1 .1 .1 .1 .0) (gather .ensures .few) (pre .0 .0 .few)
+    let f = c .before .before .before .before .before .before .before .before .before .before .before .before .before .before .before .before .before .before .before .before .before .before .before .before .pre .0 .0 in
+    part-long _ _ _ (c .before .before .before .before .before .before .before .before .gather .kept .0) (f .roomy .for-atoms) (c .before .before .before .before .before .before .before .before .gather .ensures .few) (f .few)
 
-array-share-prefix-us : tie.Need-array-share-prefix-us
-array-share-prefix-us c = search needs
+slice-reshare-prefix-settled-2 : tie.Need-slice-reshare-prefix-settled-2
+slice-reshare-prefix-settled-2 c =
+    let f = c .before .before .before .before .before .before .before .before .before .before .before .before .before .before .before .before .before .before .before .before .before .before .before .before .pre .0 .0 in
+    omega (arith, c .before .before .before .before .before .before .before .before .gather .kept .1 .0, c .before .before .before .before .before .before .before .before .gather .ensures .few, f .few, f .roomy .for-xs)
 
 slice-aggregate-settled-2 : tie.Need-slice-aggregate-settled-2
 slice-aggregate-settled-2 c =
-    let pre = c .before .before .before .before .before .before .before .before .before .before .before .before .before .before .before .before .before .before .before .before .pre in
-    let gather = c .before .before .before .before .before .before .gather in
-    part-long {A = ℕ} 0 _ _ _ (gather .kept .1 .1 .1 .1 .1 .1 .1 .0) (gather .ensures .few) (pre .0 .0 .few)
+    let f = c .before .before .before .before .before .before .before .before .before .before .before .before .before .before .before .before .before .before .before .before .before .before .before .before .before .pre .0 .0 in
+    part-long _ _ _ (c .before .before .before .before .before .before .before .before .before .gather .kept .1 .0) (f .roomy .for-xs) (c .before .before .before .before .before .before .before .before .before .gather .ensures .few) (f .few)
 
-array-share-prefix-vs : tie.Need-array-share-prefix-vs
-array-share-prefix-vs c = search needs
+slice-reshare-prefix-settled-3 : tie.Need-slice-reshare-prefix-settled-3
+slice-reshare-prefix-settled-3 c =
+    let f = c .before .before .before .before .before .before .before .before .before .before .before .before .before .before .before .before .before .before .before .before .before .before .before .before .before .pre .0 .0 in
+    omega (arith, c .before .before .before .before .before .before .before .before .before .gather .kept .1 .1 .0, c .before .before .before .before .before .before .before .before .before .gather .ensures .few, f .few, f .roomy .for-ys)
 
 slice-aggregate-settled-3 : tie.Need-slice-aggregate-settled-3
 slice-aggregate-settled-3 c =
-    let pre = c .before .before .before .before .before .before .before .before .before .before .before .before .before .before .before .before .before .before .before .before .before .pre in
-    let gather = c .before .before .before .before .before .before .before .gather in
-    part-long {A = ℕ} 0 _ _ _ (gather .kept .1 .1 .1 .1 .1 .1 .1 .1 .0) (gather .ensures .few) (pre .0 .0 .few)
+    let f = c .before .before .before .before .before .before .before .before .before .before .before .before .before .before .before .before .before .before .before .before .before .before .before .before .before .before .pre .0 .0 in
+    part-long _ _ _ (c .before .before .before .before .before .before .before .before .before .before .gather .kept .1 .1 .0) (f .roomy .for-ys) (c .before .before .before .before .before .before .before .before .before .before .gather .ensures .few) (f .few)
 
-array-share-prefix-ws : tie.Need-array-share-prefix-ws
-array-share-prefix-ws c = search needs
+slice-reshare-prefix-settled-4 : tie.Need-slice-reshare-prefix-settled-4
+slice-reshare-prefix-settled-4 c =
+    let f = c .before .before .before .before .before .before .before .before .before .before .before .before .before .before .before .before .before .before .before .before .before .before .before .before .before .before .pre .0 .0 in
+    omega (arith, c .before .before .before .before .before .before .before .before .before .before .gather .kept .1 .1 .1 .0, c .before .before .before .before .before .before .before .before .before .before .gather .ensures .few, f .few, f .roomy .for-ks)
 
 slice-aggregate-settled-4 : tie.Need-slice-aggregate-settled-4
 slice-aggregate-settled-4 c =
-    let pre = c .before .before .before .before .before .before .before .before .before .before .before .before .before .before .before .before .before .before .before .before .before .before .pre in
-    let gather = c .before .before .before .before .before .before .before .before .gather in
-    part-long (pos 0) _ _ _ (gather .kept .1 .1 .1 .1 .1 .1 .1 .1 .1 .0) (gather .ensures .few) (pre .0 .0 .few)
+    let f = c .before .before .before .before .before .before .before .before .before .before .before .before .before .before .before .before .before .before .before .before .before .before .before .before .before .before .before .pre .0 .0 in
+    part-long _ _ _ (c .before .before .before .before .before .before .before .before .before .before .before .gather .kept .1 .1 .1 .0) (f .roomy .for-ks) (c .before .before .before .before .before .before .before .before .before .before .before .gather .ensures .few) (f .few)
 
 slice-aggregate-settled-5 : tie.Need-slice-aggregate-settled-5
 slice-aggregate-settled-5 c = search needs
 
 settled-requires : tie.Need-settled-requires
 settled-requires c κs =
-    let pre = c .before .before .before .before .before .before .before .before .before .before .before .before .before .before .before .before .before .before .before .before .before .before .before .before .before .pre in
-    let mark-names = c .before .before .before .before .before .before .before .before .before .before .before .before .before .before .before .before .before .mark-names in
-    let gather = c .before .before .before .before .before .before .before .before .before .before .before .gather in
-    let g = gather in
-    let p = pre in
-    ((gathered-labelled _ _ _ _ _ (p .0 .0) _ (p .0 .1) _ _ _ _ _ (g .ensures) (kept-places (g .kept .1 .1 .1 .1 .1 .1 .0) (g .kept .1 .1 .1 .1 .1 .1 .1 .0) (g .kept .1 .1 .1 .1 .1 .1 .1 .1 .0) (g .kept .1 .1 .1 .1 .1 .1 .1 .1 .1 .0)), mark-names .kept .1 .1 .1 .0 ∙ length-replicate {A = ℕ} 1024 0), (p .0 .1, p .1))
+    let p = c .before .before .before .before .before .before .before .before .before .before .before .before .before .before .before .before .before .before .before .before .before .before .before .before .before .before .before .before .before .before .pre in
+    let g = c .before .before .before .before .before .before .before .before .before .before .before .before .before .before .gather in
+    let k = g .kept in
+    ((gathered-labelled _ _ _ _ _ (p .0 .0) _ (p .0 .1) _ _ _ _ _ (g .ensures) (still-roomy (p .0 .0 .roomy) (k .0) (k .1 .0) (k .1 .1 .0) (k .1 .1 .1 .0)), c .before .before .before .before .before .before .before .before .before .before .before .before .before .before .before .before .before .before .before .before .mark-names .kept .1 .1 .1 .0 ∙ length-replicate {A = ℕ} 1024 0), (p .0 .1, p .1))
 
 same-length : tie.Need-same-length
 same-length c = search needs
@@ -89,15 +78,25 @@ same-length c = search needs
 same-length-2 : tie.Need-same-length-2
 same-length-2 c = search needs
 
+same-length-3 : tie.Need-same-length-3
+same-length-3 c = search needs
+
+same-length-4 : tie.Need-same-length-4
+same-length-4 c = search needs
+
+same-length-5 : tie.Need-same-length-5
+same-length-5 c = search needs
+
+same-length-6 : tie.Need-same-length-6
+same-length-6 c = search needs
+
 returns : tie.Need-returns
 returns c =
-    let pre = c .before .before .before .before .before .before .before .before .before .before .before .before .before .before .before .before .before .before .before .before .before .before .before .before .before .before .before .before .before .before .pre in
-    let mark-names = c .before .before .before .before .before .before .before .before .before .before .before .before .before .before .before .before .before .before .before .before .before .before .mark-names in
-    let gather = c .before .before .before .before .before .before .before .before .before .before .before .before .before .before .before .before .gather in
+    let p = c .before .before .before .before .before .before .before .before .before .before .before .before .before .before .before .before .before .before .before .before .before .before .before .before .before .before .before .before .before .before .before .before .before .before .before .pre in
+    let g = c .before .before .before .before .before .before .before .before .before .before .before .before .before .before .before .before .before .before .before .gather in
+    let names = c .before .before .before .before .before .before .before .before .before .before .before .before .before .before .before .before .before .before .before .before .before .before .before .before .before .mark-names in
     let settled = c .before .before .before .before .settled in
-    let g = gather in
-    let p = pre in
-    λ ls h. settled-timed ls _ _ _ _ _ h _ (p .0 .1) _ _ _ _ _ (g .ensures) _ (mark-names .ensures) _ _ _ (sym (part-long (pos 0) _ _ _ (g .kept .1 .1 .1 .1 .1 .1 .1 .1 .1 .0) (g .ensures .few) (p .0 .0 .few))) (settled .ensures)
+    λ ls h. settled-timed ls _ _ _ _ _ h _ (p .0 .1) _ _ _ _ _ (g .ensures) _ (names .ensures) _ _ _ (sym (part-long _ _ _ (g .kept .1 .1 .1 .0) (p .0 .0 .roomy .for-ks) (g .ensures .few) (p .0 .0 .few))) (settled .ensures)
 
 pub timed-spec : {M : Type 1} → statement M
 timed-spec =
@@ -105,21 +104,21 @@ timed-spec =
     (tie.spec
     slice-aggregate-mark-names
     mark-names-requires
-    slice-aggregate-gather
-    slice-aggregate-gather-2
-    slice-aggregate-gather-3
-    slice-aggregate-gather-4
     gather-requires
-    array-share-prefix-ls
+    slice-reshare-prefix-settled
     slice-aggregate-settled
-    array-share-prefix-us
+    slice-reshare-prefix-settled-2
     slice-aggregate-settled-2
-    array-share-prefix-vs
+    slice-reshare-prefix-settled-3
     slice-aggregate-settled-3
-    array-share-prefix-ws
+    slice-reshare-prefix-settled-4
     slice-aggregate-settled-4
     slice-aggregate-settled-5
     settled-requires
     same-length
     same-length-2
+    same-length-3
+    same-length-4
+    same-length-5
+    same-length-6
     returns)

@@ -1,8 +1,8 @@
--- `files::container::case_length` meets its contract. Assumes nothing.
+-- `fields::Cursor::natural_then` meets its contract. Assumes nothing.
 use borrow.Author.Needs.{needs}
-use Rattle.files.specs.Cases.{caseLength}
-use Rattle.files.proofs.container.case_length.Statement.{statement}
-use Rattle.files.proofs.container.case_length.Tie as tie
+use Rattle.fields.specs.Fields.{naturalThen}
+use Rattle.fields.proofs.Cursor.natural_then.Statement.{statement}
+use Rattle.fields.proofs.Cursor.natural_then.Tie as tie
 
 next-natural-requires : tie.Need-next-natural-requires
 next-natural-requires c κs = search needs
@@ -14,14 +14,14 @@ enum-told : tie.Need-enum-told
 enum-told c = search needs
 
 returns : tie.Need-returns
-unfolding caseLength
+unfolding naturalThen
 returns c = rw (← (c .before .before .next-natural .ensures), c .enum-told .given .1)
 
 byte-requires : tie.Need-byte-requires
 byte-requires c κs = search needs
 
-enum-known-b : tie.Need-enum-known-b
-enum-known-b c = search needs
+enum-known-e : tie.Need-enum-known-e
+enum-known-e c = search needs
 
 enum-told-2 : tie.Need-enum-told-2
 enum-told-2 c = search needs
@@ -30,15 +30,15 @@ refusal-requires : tie.Need-refusal-requires
 refusal-requires c κs = search needs
 
 returns-2 : tie.Need-returns-2
-unfolding caseLength
+unfolding naturalThen
 returns-2 c = rw (c .refusal .ensures, ← (c .before .before .before .before .before .before .before .next-natural .ensures), c .before .before .before .before .before .a .given .1, ← (c .before .before .before .byte .ensures), c .before .enum-told2 .given .1)
 
 returns-3 : tie.Need-returns-3
-unfolding caseLength
-returns-3 c = rw (← (c .before .before .before .before .before .before .before .next-natural .ensures), c .before .before .before .before .before .a .given .1, ← (c .before .before .before .byte .ensures), c .before .b .given .1)
+unfolding naturalThen
+returns-3 c = rw (← (c .before .before .before .before .before .before .before .next-natural .ensures), c .before .before .before .before .before .a .given .1, ← (c .before .before .before .byte .ensures), c .before .e .given .1)
 
-pub case-length-spec : {M : Type 1} → statement M
-case-length-spec =
+pub natural-then-spec : {M : Type 1} → statement M
+natural-then-spec =
     tie.close
     (tie.spec
     next-natural-requires
@@ -46,7 +46,7 @@ case-length-spec =
     enum-told
     returns
     byte-requires
-    enum-known-b
+    enum-known-e
     enum-told-2
     refusal-requires
     returns-2

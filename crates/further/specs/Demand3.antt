@@ -10,10 +10,10 @@ use Rattle.faults.specs.Marks.{among}
 use Rattle.diffs.specs.Diff.{Diff, Keeps, whole}
 use Rattle.timetable.specs.Times.{timeOf}
 use Rattle.terms.specs.Says.{Says, Name}
-use Rattle.judge.specs.Plan.{Rooms, Ready, readable}
+use Rattle.judge.specs.Plan.{Asked, Rooms, Ready, readable}
 use Rattle.judge.specs.Judged.{refusal, Result, refusing, Judged}
 use Rattle.judge.specs.Demand2.{Timeable, Accepted, ShowsCycle}
-use Rattle.judge.specs.Later.{Moved, Later}
+use Rattle.further.specs.Later.{Moved, Later}
 
 -- the time that the timetable of an accepted plan gives a term number; 21 if it is no name
 abbrev pub timeIn : (r : Result) → Accepted r → ℕ → Answer ℕ
@@ -44,6 +44,6 @@ pub record Further (q q′ : Ready) (new : List ℕ) (l : Later q q′ new) (b�
 -- of every two readable plans, each with rooms of its own, of which the second is the first with time rules added, and of every result of each
 abbrev pub Demand3 : Type 0
 Demand3 =
-    (text cand text′ cand′ : List ℕ) (b b′ : Rooms) (q q′ : Ready) (new : List ℕ)
-    → readable text cand b ≡ got q → readable text′ cand′ b′ ≡ got q′ → (l : Later q q′ new)
-    → (r r′ : Result) → Judged text cand b r → Judged text′ cand′ b′ r′ → Further q q′ new l b′ r r′
+    (a a′ : Asked) (b b′ : Rooms) (q q′ : Ready) (new : List ℕ)
+    → readable a b ≡ got q → readable a′ b′ ≡ got q′ → (l : Later q q′ new)
+    → (r r′ : Result) → Judged a b r → Judged a′ b′ r′ → Further q q′ new l b′ r r′
