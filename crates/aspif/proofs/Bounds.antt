@@ -8,7 +8,8 @@ use borrow.Author.Tests.{eqb-true, eqb-false}
 use lib.Dec.{eqb}
 use lib.IntN.{pos, negℤ}
 use lib.ListN.{length}
-use Rattle.faults.specs.Answer.{got, pick}
+use Rattle.basics.specs.Bools.{pick}
+use Rattle.faults.specs.Answer.{got}
 use Rattle.fields.specs.declared.Item.{Item}
 use Rattle.fields.specs.Reading.{Reading, found, fault}
 use Rattle.fields.specs.Fields.{byteAt, byte, lineEnd, natural, nextNatural, negative, integer, nextInteger, literal, atom, nextAtom, nextTerm, nextElement, item, items, counted, plain, naturalThen, string, rest}

@@ -8,15 +8,16 @@ use borrow.Author.Tests.{eq-eqb, ne-eqb, eqb-true, eqb-false, leb-true, leb-fals
 use lib.Dec.{eqb, leb, ltb, lit<}
 use lib.ListN.{length, getD, set, replicate, length-set, length-replicate}
 use lib.Seq.{getD-set-other}
-use Rattle.faults.specs.Answer.{got, refused, pick}
+use Rattle.faults.specs.Answer.{got, refused}
 use Rattle.fields.specs.Reading.{Reading, found, fault, isFound, bind}
 use Rattle.fields.specs.Fields.{byteAt, byte, lineEnd, textEnd, field, allDigits, isNatural, value, natural}
 use Rattle.fields.proofs.Decimal.{value-grows}
 use Rattle.fields.proofs.Naturals.{byte-read, byte-missed, there, natural-within}
 use Rattle.aspif.specs.Grammar.{answer, lastLine}
 use Rattle.aspif.specs.Candidate.{sevenfold, atomAbove, ending, ascending, atoms, candidate, AscendingFrom, atomsOf, Blank}
-use Rattle.faults.proofs.Marks.{marks-none, marks-more}
-use Rattle.faults.proofs.Lists.{zeros}
+use Rattle.basics.specs.Bools.{pick}
+use Rattle.basics.proofs.Bitmaps.{marks-none, marks-more}
+use Rattle.basics.proofs.Lists.{zeros}
 
 -- ---- a field
 

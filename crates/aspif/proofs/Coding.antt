@@ -8,7 +8,7 @@ use borrow.Author.Tests.{eqb-true, eqb-false}
 use lib.Dec.{eqb}
 use lib.IntN.{pos, negℤ}
 use lib.ListN.{length}
-use Rattle.faults.specs.Answer.{pick}
+use Rattle.basics.specs.Bools.{pick}
 use Rattle.fields.specs.Reading.{found, placed}
 use Rattle.fields.specs.Fields.{byteAt, byte, natural, negative, integer, nextInteger}
 use Rattle.fields.specs.Tape.{listed}

@@ -6,7 +6,7 @@ use mathlib.Core.Bool.{Bool, true, false}
 use native.Mathlib.Omega.{arith}
 use lib.Dec.{eqb}
 use lib.ListN.{length, drop, length-drop}
-use Rattle.faults.specs.Answer.{pick}
+use Rattle.basics.specs.Bools.{pick}
 use Rattle.fields.specs.Reading.{Reading, found, fault, bind, _>>=_, _>>_, pure}
 use Rattle.fields.specs.Fields.{natural, field, isSeparator}
 use Rattle.fields.proofs.Runs.{upTo-length}

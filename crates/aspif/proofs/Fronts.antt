@@ -8,7 +8,7 @@ use borrow.Author.Tests.{leb-true, leb-false, ltb-true, ltb-false, lt-ltb, le-lt
 use lib.Dec.{eqb, leb, ltb}
 use lib.ListN.{length, take, drop, length-take}
 use lib.Seq.{take-all, take-nil, getD-take}
-use Rattle.faults.specs.Answer.{pick}
+use Rattle.basics.specs.Bools.{pick}
 use Rattle.fields.specs.Reading.{Reading, found, fault, bind}
 use Rattle.fields.specs.Fields.{upTo, isSeparator, byteAt, byte, lineEnd, textEnd, field, isNatural, value, natural}
 use Rattle.aspif.specs.Grammar.{lastLine}

@@ -7,7 +7,8 @@ use native.Mathlib.Omega.{arith}
 use borrow.Author.Tests.{eqb-true}
 use lib.Dec.{eqb, ltb, lit<}
 use lib.ListN.{length}
-use Rattle.faults.specs.Answer.{refused, pick}
+use Rattle.basics.specs.Bools.{pick}
+use Rattle.faults.specs.Answer.{refused}
 use Rattle.fields.specs.declared.Item.{Item}
 use Rattle.fields.specs.Reading.{Reading, found, fault, Reader, bind, placed}
 use Rattle.fields.specs.Fields.{byteAt, byte, bytes, lineEnd, textEnd, allPositive, natural, nextNatural, negative, integer, nextInteger, literal, atom, nextAtom, nextTerm, nextElement, char, item, items, counted, plain, naturalThen, string, rest}

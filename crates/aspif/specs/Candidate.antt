@@ -4,8 +4,9 @@ use mathlib.Core.Path.{_≡_}
 use mathlib.Core.List.{List, [], _∷_}
 use lib.ListN.{length, getD}
 use lib.Dec.{eqb, leb}
-use Rattle.faults.specs.Answer.{Answer, pick}
-use Rattle.faults.specs.Marks.{marks}
+use Rattle.faults.specs.Answer.{Answer}
+use Rattle.basics.specs.Bools.{pick}
+use Rattle.basics.specs.inner.Bitmaps.{marks}
 use Rattle.fields.specs.Reading.{Reading, found, fault, Reader, isFound, bind}
 use Rattle.fields.specs.Fields.{byteAt, lineEnd, natural}
 use Rattle.aspif.specs.Grammar.{answer, lastLine}

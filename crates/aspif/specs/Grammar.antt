@@ -5,7 +5,8 @@ use mathlib.Core.List.{List, [], _∷_, map}
 use lib.ListN.{length}
 use lib.Dec.{eqb}
 use lib.IntN.{ℤ, pos, negℤ}
-use Rattle.faults.specs.Answer.{Answer, got, refused, pick}
+use Rattle.basics.specs.Bools.{pick}
+use Rattle.faults.specs.Answer.{Answer, got, refused}
 use Rattle.fields.specs.declared.Item.the-variants as of
 use Rattle.fields.specs.Reading.{Reading, found, fault, Reader, bind, _>>=_, _>>_, pure}
 use Rattle.fields.specs.Fields.{byteAt, byte, bytes, lineEnd, textEnd, natural, nextNatural, nextInteger, nextAtom, nextTerm, nextElement, counted, string, rest}

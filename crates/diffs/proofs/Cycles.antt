@@ -5,7 +5,8 @@ use Prim.Native.Nat.{ℕ}
 use native.Mathlib.Omega.{arith}
 use lib.IntN.{ℤ, _-ℤ_}
 use lib.Signed.{_≤ℤ_}
-use Rattle.diffs.specs.Diff.{Diff, Keeps, KeepsAll, All, Path, Sum, NegCycle}
+use Rattle.basics.specs.Lists.{All}
+use Rattle.diffs.specs.Diff.{Diff, Keeps, KeepsAll, Path, Sum, NegCycle}
 use Rattle.diffs.specs.Steps.{up, down}
 use Rattle.diffs.proofs.Integers.{le-up, up-le, lt-up, add-up, minus-up}
 use Rattle.diffs.proofs.Names.{all-map}

@@ -10,7 +10,8 @@ use native.Mathlib.Decide.{decLe, decLt}
 use lib.ListN.{length}
 use lib.IntN.{pos, negℤ}
 use lib.Signed.{_≤ℤ_}
-use Rattle.diffs.specs.Diff.{Diff, Earliest, All, NotIn, Distinct}
+use Rattle.basics.specs.Lists.{All, NotIn, Distinct}
+use Rattle.diffs.specs.Diff.{Diff, Earliest}
 use Rattle.diffs.specs.Steps.{down, Holds}
 use Rattle.diffs.proofs.Choosing.{by-dec, pick-dec, pick-yes, pick-no}
 use Rattle.diffs.proofs.EarliestTimes.{unnamed-zero}

@@ -6,7 +6,8 @@ use Prim.Native.Nat.{ℕ, zero, suc, _≤_, _<_}
 use native.Mathlib.Omega.{arith}
 use native.Mathlib.Decide.{ℕ-discrete}
 use lib.ListN.{length, take}
-use Rattle.diffs.specs.Diff.{Diff, All, NotIn, Distinct, Path, firsts}
+use Rattle.basics.specs.Lists.{All, NotIn, Distinct}
+use Rattle.diffs.specs.Diff.{Diff, Path, firsts}
 use Rattle.diffs.proofs.Choosing.{by-dec}
 
 -- ---- All

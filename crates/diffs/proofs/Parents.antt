@@ -12,7 +12,8 @@ use lib.ListN.{length, take, length-map}
 use lib.Seq.{length-take-le}
 use lib.IntN.{pos}
 use lib.Signed.{_<ℤ_}
-use Rattle.diffs.specs.Diff.{Diff, All, NotIn, Distinct, Path, Sum, NegCycle}
+use Rattle.basics.specs.Lists.{All, NotIn, Distinct}
+use Rattle.diffs.specs.Diff.{Diff, Path, Sum, NegCycle}
 use Rattle.diffs.specs.Answer.{Among}
 use Rattle.diffs.specs.Steps.{up, down, Link, Inv}
 use Rattle.diffs.proofs.Choosing.{by-dec}

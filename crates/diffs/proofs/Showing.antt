@@ -6,7 +6,8 @@ use Prim.Native.Nat.{ℕ, zero, suc, _+_, _-_, _≤_, _<_}
 use native.Mathlib.Omega.{arith}
 use lib.ListN.{length, drop}
 use lib.Seq.{slice, length-slice}
-use Rattle.diffs.specs.Diff.{Diff, All, NegCycle}
+use Rattle.basics.specs.Lists.{All}
+use Rattle.diffs.specs.Diff.{Diff, NegCycle}
 use Rattle.diffs.specs.Answer.{at, Among, LeastFirst, Shown}
 use Rattle.diffs.specs.Steps.{Numbers, Least, turned, Laid}
 use Rattle.diffs.proofs.Laying.{source, turned-length}

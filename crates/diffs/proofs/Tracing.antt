@@ -5,7 +5,8 @@ use Prim.Native.Nat.{ℕ, zero, suc, _+_, _-_, _≤_, _<_}
 use native.Mathlib.Omega.{arith}
 use lib.ListN.{length, set, take, drop, length-drop, length-map}
 use lib.Seq.{slice, getD-drop, drop-length}
-use Rattle.diffs.specs.Diff.{Diff, NotIn, Path, NegCycle}
+use Rattle.basics.specs.Lists.{NotIn}
+use Rattle.diffs.specs.Diff.{Diff, Path, NegCycle}
 use Rattle.diffs.specs.Answer.{at, Among}
 use Rattle.diffs.specs.Steps.{Stuck}
 use Rattle.diffs.proofs.Names.{seconds}

@@ -6,7 +6,8 @@ use native.Mathlib.Omega.{arith}
 use lib.ListN.{length-append}
 use lib.IntN.{ℤ, pos, _+ℤ_, +ℤ-idl, +ℤ-assoc, +ℤ-comm}
 use lib.Signed.{_<ℤ_}
-use Rattle.diffs.specs.Diff.{Diff, Distinct, Path, firsts, Sum, NegCycle}
+use Rattle.basics.specs.Lists.{Distinct}
+use Rattle.diffs.specs.Diff.{Diff, Path, firsts, Sum, NegCycle}
 use Rattle.diffs.proofs.Names.{all-swap, distinct-swap}
 
 path-join : (a : ℕ) (l : List Diff) (b : ℕ) (r : List Diff) (z : ℕ) → Path a l b → Path b r z → Path a (l ++ r) z

@@ -4,7 +4,8 @@ use mathlib.Core.List.{List, [], _∷_, _++_, map}
 use Prim.Native.Nat.{ℕ, _≤_, _<_}
 use lib.ListN.{length, getD, drop}
 use lib.IntN.{ℤ, pos}
-use Rattle.diffs.specs.Diff.{Diff, Earliest, All, NegCycle}
+use Rattle.basics.specs.Lists.{All}
+use Rattle.diffs.specs.Diff.{Diff, Earliest, NegCycle}
 use Rattle.diffs.specs.declared.Outcome.{Outcome}
 use Rattle.diffs.specs.declared.Outcome.the-variants.{Times, Cycle}
 

@@ -1,12 +1,12 @@
 -- Differences x - y ≤ k between times, what it is for times to keep them, the earliest times, and a negative cycle: document 01, 'Meaning'.
 -- All are over a set S of differences in force, `S : Diff → Type 0`.
 use mathlib.Core.Path.{_≡_}
-use mathlib.Core.Logic.{_≢_}
 use mathlib.Core.List.{List, [], _∷_, map}
 use Prim.Native.Nat.{ℕ, _≤_, _<_}
 use lib.IntN.{ℤ, pos, _+ℤ_, _-ℤ_}
 use lib.ListN.{length}
 use lib.Signed.{_≤ℤ_, _<ℤ_}
+use Rattle.basics.specs.Lists.{All, Distinct}
 
 -- x - y ≤ k
 pub record Diff : Type 0 where
@@ -30,20 +30,6 @@ whole u n = pos (u n)
 pub record Earliest (S : Diff → Type 0) (u : ℕ → ℕ) : Type 0 where
   pub keeps : KeepsAll (whole u) S
   pub least : (v : ℕ → ℕ) → KeepsAll (whole v) S → (n : ℕ) → u n ≤ v n
-
--- P holds of each member
-abbrev pub All : {A : Type 0} → (A → Type 0) → List A → Type 0
-All P [] = Unit {0}
-All P (a ∷ l) = P a × All P l
-
--- n stands nowhere in the list
-abbrev pub NotIn : ℕ → List ℕ → Type 0
-NotIn n ms = All (λ m. n ≢ m) ms
-
--- no two members are the same
-abbrev pub Distinct : List ℕ → Type 0
-Distinct [] = Unit {0}
-Distinct (n ∷ ns) = NotIn n ns × Distinct ns
 
 -- a is the first one's x, each one's y is the next one's x, and b is the last one's y
 abbrev pub Path : ℕ → List Diff → ℕ → Type 0

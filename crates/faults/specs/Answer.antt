@@ -1,6 +1,5 @@
 -- An answer: a value, or a refusal with the paper's number and place. Assumes nothing.
 use Prim.Native.Nat.{ℕ}
-use mathlib.Core.Bool.{Bool, true, false}
 
 pub data Answer (A : Type 0) : Type 0 where
   got : A → Answer A
@@ -13,8 +12,3 @@ bind (refused k p) f = refused k p
 abbrev pub mapped : {A B : Type 0} → (A → B) → Answer A → Answer B
 mapped f (got a) = got (f a)
 mapped f (refused k p) = refused k p
-
--- the first where the test holds, else the second
-abbrev pub pick : {A : Type 0} → Bool → A → A → A
-pick true a b = a
-pick false a b = b

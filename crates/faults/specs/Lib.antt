@@ -1,4 +1,5 @@
 -- The definitions that the contracts cite.
+pub mod Limits
 pub mod Answer
 pub mod Values
-pub mod Marks
+pub mod inner

@@ -2,6 +2,39 @@
 ghost use mathlib.Core.Path.{_≡_};
 ghost use Rattle.faults.specs.Values.{number, refusalOf};
 
+// The bytes of the longest text.
+pub const LONGEST_TEXT: usize = 60000;
+
+// The largest atom.
+pub const LAST_ATOM: u32 = 4096;
+
+// The largest term number.
+pub const LAST_TERM: u32 = 1023;
+
+// The largest element number.
+pub const LAST_ELEMENT: u32 = 1023;
+
+// The largest count in a statement, and the longest string.
+pub const MOST_COUNT: u32 = 4096;
+
+// The largest numeric term.
+pub const LARGEST_NUMBER: u32 = 1000000;
+
+// The bytes of the timetable room.
+pub const TABLE_ROOM: usize = 24592;
+
+// The places of the cycle room.
+pub const CYCLE_ROOM: usize = 1024;
+
+// The places of a table by atoms, 0 and the largest with them.
+pub const ATOM_PLACES: usize = 4097;
+
+// The places of a table by terms.
+pub const TERM_PLACES: usize = 1024;
+
+// The places of a table by elements.
+pub const ELEMENT_PLACES: usize = 1024;
+
 // One case a number of the paper's table: 1 to 11, then 20 and 21 of the timetable's reader.
 pub enum Kind {
     Room,

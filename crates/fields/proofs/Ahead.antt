@@ -7,7 +7,7 @@ use native.Mathlib.Omega.{arith}
 use lib.ListN.{length}
 use lib.Dec.{eqb, lit<}
 use borrow.Author.Tests.{eqb-true, eqb-false}
-use Rattle.faults.specs.Answer.{pick}
+use Rattle.basics.specs.Bools.{pick}
 use Rattle.fields.specs.Reading.{Reading, found, fault, bind, placed}
 use Rattle.fields.specs.Fields.{naturalThen, byteAt, byte, lineEnd, natural, negative, integer, nextInteger, literal, atom, nextAtom, item, next, nextNatural, char, nextTerm, nextElement}
 use Rattle.fields.specs.declared.Item.{Item}

@@ -9,7 +9,7 @@ use native.Mathlib.Omega.{arith}
 use native.Mathlib.Numerals.{add-one}
 use lib.ListN.{length, getD, drop, drop-of-length-le}
 use lib.Seq.{drop-cons}
-use Rattle.faults.specs.Answer.{pick}
+use Rattle.basics.specs.Bools.{pick}
 use Rattle.fields.specs.Fields.{allDigits, isDigit, value, isNatural}
 
 module _ (s : List ℕ) (i : ℕ) where

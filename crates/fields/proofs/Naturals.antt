@@ -7,7 +7,7 @@ use borrow.Author.Tests.{eq-eqb, ne-eqb, eqb-true, le-leb, lt-leb, leb-true, ltb
 use lib.Dec.{eqb, leb, ltb}
 use native.Mathlib.Omega.{arith}
 use lib.ListN.{length, take, drop, length-drop, List·getD-eq-default}
-use Rattle.faults.specs.Answer.{pick}
+use Rattle.basics.specs.Bools.{pick}
 use Rattle.fields.specs.Reading.{found, fault}
 use Rattle.fields.specs.Fields.{field, isSeparator, isForbidden, plain, value, isNatural, natural, byteAt, byte}
 use Rattle.fields.proofs.Runs.{upTo-length, upTo-take}

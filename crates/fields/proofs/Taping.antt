@@ -7,7 +7,7 @@ use native.Mathlib.Nat.{add-zero}
 use native.Mathlib.Numerals.{add-one}
 use lib.ListN.{length, set, length-append}
 use lib.Seq.{sets}
-use Rattle.faults.proofs.Lists.{sets-append}
+use Rattle.basics.proofs.Lists.{sets-append}
 use Rattle.fields.specs.Reading.{Reading, found, fault, bind}
 use Rattle.fields.specs.Fields.{byte, natural, nextNatural, item, items, counted}
 use Rattle.fields.specs.Tape.{written, onTape, bare, listed}

@@ -8,7 +8,7 @@ use lib.ListN.{length, getD, drop, drop-of-length-le}
 use lib.Seq.{drop-cons}
 use lib.Dec.{ltb}
 use borrow.Author.Tests.{ltb-true}
-use Rattle.faults.proofs.Bools.{and-cases}
+use Rattle.basics.proofs.Bools.{and-cases}
 use Rattle.fields.specs.Reading.{found, fault}
 use Rattle.fields.specs.Fields.{byte, bytes, allPositive}
 

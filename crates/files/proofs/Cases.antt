@@ -7,7 +7,7 @@ use native.Mathlib.Omega.{arith}
 use borrow.Author.Tests.{eqb-true}
 use lib.Dec.{eqb, lit<}
 use lib.ListN.{length}
-use Rattle.faults.specs.Answer.{pick}
+use Rattle.basics.specs.Bools.{pick}
 use Rattle.fields.specs.Reading.{Reading, found, fault, bind}
 use Rattle.fields.specs.Fields.{byteAt, byte, field, nextNatural, naturalThen}
 use Rattle.fields.proofs.Naturals.{there}

@@ -3,7 +3,7 @@ use Prim.Native.Nat.{ℕ, _+_}
 use mathlib.Core.List.{List}
 use lib.ListN.{length}
 use lib.Dec.{eqb}
-use Rattle.faults.specs.Answer.{pick}
+use Rattle.basics.specs.Bools.{pick}
 use Rattle.fields.specs.Reading.{Reading, found, fault}
 use Rattle.fields.specs.Fields.{byteAt, field, naturalThen}
 use Rattle.files.specs.declared.container.Case.{Case}

@@ -6,14 +6,14 @@ use mathlib.Core.Logic.{_⊎_, inl, inr, ⊎-elim}
 use mathlib.Core.List.{List, [], _∷_}
 use borrow.Author.Tests.{ne-eqb}
 use lib.Dec.{eqb}
-use Rattle.faults.specs.Marks.{among}
-use Rattle.faults.proofs.Bools.{or-else}
+use Rattle.basics.specs.Lists.{among}
+use Rattle.basics.proofs.Bools.{or-else}
 use Rattle.aspif.specs.Statements.{Statement, Line}
 use Rattle.terms.specs.Says.{partOf, heads, headed}
 use Rattle.terms.specs.Terms.{statesIn, taken, external}
 use Rattle.stable.specs.Meaning.{Atoms, Says, broken}
 use Rattle.judge.specs.Plan.{Ready, holds}
-use Rattle.further.specs.Later.{atoms, Unused, Added, a-number, a-string, a-compound, an-element, an-atom, a-fact, Grown, none, keep, add, Later}
+use Rattle.further.specs.Later.{atoms, Unused, Added, a-number, a-string, a-compound, an-element, an-atom, a-fact, Grown, done, keep, add, Later}
 use Rattle.judge.proofs.Ascent.{of-member}
 use Rattle.further.proofs.Lists.{not-true, not-both}
 use Rattle.further.proofs.Agree.{Agree}
@@ -23,14 +23,14 @@ use Rattle.further.proofs.Agree.{Agree}
 module _ (P : Statement → Type 0) where
   -- what an old line says, a new line says
   pub says-on : {ls ms : List Line} → Grown P ls ms → (s : Statement) → Says ls s → Says ms s
-  says-on none s h = h
+  says-on done s h = h
   says-on (keep l m e g) s (inl h) = inl (sym e ∙ h)
   says-on (keep l m e g) s (inr h) = inr (says-on g s h)
   says-on (add m i g) s h = inr (says-on g s h)
 
   -- what a new line says, an old one says or an added one
   pub says-back : {ls ms : List Line} → Grown P ls ms → (s : Statement) → Says ms s → Says ls s ⊎ P s
-  says-back none s h = inl h
+  says-back done s h = inl h
   says-back (keep l m e g) s (inl h) = inl (inl (e ∙ h))
   says-back (keep l m e g) s (inr h) = ⊎-elim (λ x. inl (inr x)) (λ x. inr x) (says-back g s h)
   says-back (add m i g) s (inl h) = inr (rw h at i)
@@ -39,14 +39,14 @@ module _ (P : Statement → Type 0) where
   -- an atom that no added line states is stated by the new lines exactly if by the old
   pub taken-same : (a : ℕ) → ((s : Statement) → P s → statesIn a (partOf s) ≡ false) → {ls ms : List Line} → Grown P ls ms → taken ms a ≡ taken ls a
   unfolding taken
-  taken-same a f none = refl
+  taken-same a f done = refl
   taken-same a f (keep l m e g) = rw (e, taken-same a f g)
   taken-same a f (add m i g) = rw (f (m .says) i) (taken-same a f g)
 
   -- an atom that heads no added line heads a new line exactly if an old one
   pub headed-same : (a : ℕ) → ((s : Statement) → P s → heads a s ≡ false) → {ls ms : List Line} → Grown P ls ms → headed ms a ≡ headed ls a
   unfolding headed
-  headed-same a f none = refl
+  headed-same a f done = refl
   headed-same a f (keep l m e g) = rw (e, headed-same a f g)
   headed-same a f (add m i g) = rw (f (m .says) i) (headed-same a f g)
 

@@ -4,9 +4,9 @@ use mathlib.Core.Path.{_≡_, refl, sym, _∙_}
 use mathlib.Core.Bool.{true, false}
 use mathlib.Core.List.{List, [], _∷_, _++_}
 use lib.Dec.{eqb}
-use Rattle.faults.specs.Marks.{among}
-use Rattle.faults.proofs.Bools.{or-left, or-right, and-cases}
-use Rattle.faults.proofs.Marks.{first-in, among-append}
+use Rattle.basics.specs.Lists.{among}
+use Rattle.basics.proofs.Bools.{or-left, or-right, and-cases}
+use Rattle.basics.proofs.Bitmaps.{first-in, among-append}
 use Rattle.aspif.specs.Statements.{Literal, positive, negated, Head, empty, single, choice, Statement, rule, output, numeric, string, compound, element, theory, guarded, comment}
 use Rattle.stable.specs.Meaning.{Atoms, bodyTrue, brokenRule, broken, kept, positives, reductHead}
 use Rattle.further.specs.Later.{inHead, inLiterals, atoms}

@@ -5,11 +5,11 @@ use mathlib.Core.Bool.{Bool, true, false}
 use mathlib.Core.Logic.{_⊎_, inl, inr}
 use mathlib.Core.List.{List}
 use native.Mathlib.Omega.{arith}
-use Rattle.faults.specs.Answer.{pick}
+use Rattle.basics.specs.Bools.{pick}
 use Rattle.aspif.specs.Statements.{Statement, Line}
 use Rattle.stable.specs.Meaning.{Atoms, Says, broken, Broken, unbroken, brokenAt, firstBroken}
 use Rattle.judge.specs.Plan.{Ready, holds}
-use Rattle.further.specs.Later.{atoms, Added, Grown, none, keep, add, Moved, Later}
+use Rattle.further.specs.Later.{atoms, Added, Grown, done, keep, add, Moved, Later}
 use Rattle.further.proofs.Agree.{Agree, broken-same}
 use Rattle.further.proofs.Added.{added-unbroken, lines-agree, new-holds}
 
@@ -29,7 +29,7 @@ pick-broken false l m p f g M h e = let r = h e in (r .0, inr (r .1), r .2)
 module _ (P : Statement → Type 0) (X Y : Atoms) (added : (s : Statement) → P s → broken Y s ≡ false) where
   whole-still : {ls ms : List Line} → Grown P ls ms → ((s : Statement) → Says ls s → Agree X Y (atoms s)) → firstBroken X ls ≡ unbroken → firstBroken Y ms ≡ unbroken
   unfolding firstBroken
-  whole-still none h e = refl
+  whole-still done h e = refl
   whole-still (keep l m {ls} {ms} i g) h e =
       rw (← i, ← broken-same X Y (l .says) (h (l .says) (inl refl)))
       (pick-whole (broken X (l .says)) (l .place) (m .place) (firstBroken X ls) (firstBroken Y ms) (λ f. whole-still g (λ s x. h s (inr x)) f) e)
@@ -38,7 +38,7 @@ module _ (P : Statement → Type 0) (X Y : Atoms) (added : (s : Statement) → P
   broken-still : {ls ms : List Line} (g : Grown P ls ms) → ((s : Statement) → Says ls s → Agree X Y (atoms s)) → (p : ℕ) → firstBroken X ls ≡ brokenAt p
       → (p′ : ℕ) × Moved g p p′ × (firstBroken Y ms ≡ brokenAt p′)
   unfolding firstBroken
-  broken-still none h p e = let z : _≡_ {A = ℕ} 0 1 = (cc) in absurd (omega arith)
+  broken-still done h p e = let z : _≡_ {A = ℕ} 0 1 = (cc) in absurd (omega arith)
   broken-still (keep l m {ls} {ms} i g) h p e =
       rw (← i, ← broken-same X Y (l .says) (h (l .says) (inl refl)))
       (pick-broken (broken X (l .says)) (l .place) (m .place) p (firstBroken X ls) (firstBroken Y ms) (Moved g p) (λ f. broken-still g (λ s x. h s (inr x)) p f) e)

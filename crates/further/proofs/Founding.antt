@@ -5,8 +5,8 @@ use mathlib.Core.Bool.{Bool, true, false, _||_}
 use mathlib.Core.Logic.{⊎-elim}
 use mathlib.Core.List.{List, []}
 use borrow.Author.Tests.{eqb-true, eq-eqb}
-use Rattle.faults.specs.Marks.{among}
-use Rattle.faults.proofs.Bools.{or-left, or-right, or-else}
+use Rattle.basics.specs.Lists.{among}
+use Rattle.basics.proofs.Bools.{or-left, or-right, or-else}
 use Rattle.aspif.specs.Statements.{Literal, Head, single, Statement, rule}
 use Rattle.terms.specs.Terms.{external}
 use Rattle.stable.specs.Meaning.{Atoms, Says, Closed, Unfounded, Founded, SmallestUnfounded}

@@ -4,37 +4,39 @@ use mathlib.Core.Path.{_≡_, refl, ap, _∙_}
 use mathlib.Core.Bool.{Bool, true, false}
 use mathlib.Core.Logic.{_⊎_, inl, inr}
 use mathlib.Core.List.{List, [], _∷_}
+use mathlib.Core.Option.{Option, some, none}
 use native.Mathlib.Omega.{arith}
 use borrow.Author.Tests.{eqb-true}
 use lib.Dec.{eqb}
 use lib.IntN.{ℤ}
-use Rattle.faults.specs.Answer.{pick}
+use Rattle.basics.specs.Bools.{pick}
+use Rattle.basics.specs.Lists.{Some}
 use Rattle.aspif.specs.Statements.{Literal, Statement, rule, output, numeric, string, compound, element, theory, guarded, comment, Line}
 use Rattle.diffs.specs.Diff.{Diff}
-use Rattle.terms.specs.Says.{Term, comp, Element, elem, Part, defines, collects, states, other, partOf, Found, found, nothing, orElse, termIn, term, elementIn, elementAt, Difference, SaysIn, Some, Says as SaysDifference}
+use Rattle.terms.specs.Says.{Term, comp, Element, elem, Part, defines, collects, states, other, partOf, orElse, termIn, term, elementIn, elementAt, Difference, SaysIn, Says as SaysDifference}
 use Rattle.stable.specs.Meaning.{Says}
 
 -- ---- terms
 
-defines-it : (u : ℕ) (t : Term) (p : Part) → termIn u p ≡ found t → p ≡ defines u t
+defines-it : (u : ℕ) (t : Term) (p : Part) → termIn u p ≡ some t → p ≡ defines u t
 defines-it u t (defines v x) e = go (eqb u v) refl e
   where
-    go : (b : Bool) → eqb u v ≡ b → pick b (found x) nothing ≡ found t → defines v x ≡ defines u t
+    go : (b : Bool) → eqb u v ≡ b → pick b (some x) none ≡ some t → defines v x ≡ defines u t
     go true f g = let i : u ≡ v = eqb-true u v f in cc
     go false f g = let z : _≡_ {A = ℕ} 0 1 = (cc) in absurd (omega arith)
 defines-it u t (collects v x) e = let z : _≡_ {A = ℕ} 0 1 = (cc) in absurd (omega arith)
 defines-it u t (states a p vs g) e = let z : _≡_ {A = ℕ} 0 1 = (cc) in absurd (omega arith)
 defines-it u t other e = let z : _≡_ {A = ℕ} 0 1 = (cc) in absurd (omega arith)
 
-term-line : (ls : List Line) (u : ℕ) (t : Term) → term ls u ≡ found t → (s : Statement) × Says ls s × (partOf s ≡ defines u t)
+term-line : (ls : List Line) (u : ℕ) (t : Term) → term ls u ≡ some t → (s : Statement) × Says ls s × (partOf s ≡ defines u t)
 unfolding term
 term-line [] u t e = let z : _≡_ {A = ℕ} 0 1 = (cc) in absurd (omega arith)
 term-line (l ∷ ls) u t e = go (termIn u (partOf (l .says))) refl e (λ f. term-line ls u t f)
   where
-    go : (x : Found Term) → termIn u (partOf (l .says)) ≡ x → orElse x (term ls u) ≡ found t
-        → (term ls u ≡ found t → (s : Statement) × Says ls s × (partOf s ≡ defines u t)) → (s : Statement) × ((l .says ≡ s) ⊎ Says ls s) × (partOf s ≡ defines u t)
-    go (found x) f g r = (l .says, inl refl, defines-it u t (partOf (l .says)) (f ∙ g))
-    go nothing f g r = let h = r g in (h .0, inr (h .1), h .2)
+    go : (x : Option Term) → termIn u (partOf (l .says)) ≡ x → orElse x (term ls u) ≡ some t
+        → (term ls u ≡ some t → (s : Statement) × Says ls s × (partOf s ≡ defines u t)) → (s : Statement) × ((l .says ≡ s) ⊎ Says ls s) × (partOf s ≡ defines u t)
+    go (some x) f g r = (l .says, inl refl, defines-it u t (partOf (l .says)) (f ∙ g))
+    go none f g r = let h = r g in (h .0, inr (h .1), h .2)
 
 compound-line : (s : Statement) (u : ℕ) (t : ℤ) (us : List ℕ) → partOf s ≡ defines u (comp t us) → s ≡ compound u t us
 compound-line (rule h b) u t us e = let z : _≡_ {A = ℕ} 0 1 = (cc) in absurd (omega arith)
@@ -48,16 +50,16 @@ compound-line (guarded a p vs g v) u t us e = let z : _≡_ {A = ℕ} 0 1 = (cc)
 compound-line (comment bs) u t us e = let z : _≡_ {A = ℕ} 0 1 = (cc) in absurd (omega arith)
 
 -- a compound is said by its line
-pub compound-said : (ls : List Line) (u : ℕ) (t : ℤ) (us : List ℕ) → term ls u ≡ found (comp t us) → Says ls (compound u t us)
+pub compound-said : (ls : List Line) (u : ℕ) (t : ℤ) (us : List ℕ) → term ls u ≡ some (comp t us) → Says ls (compound u t us)
 compound-said ls u t us e = let x = term-line ls u (comp t us) e in rw (compound-line (x .0) u t us (x .2)) at (x .1)
 
 -- ---- elements
 
-collects-it : (v : ℕ) (e : Element) (p : Part) → elementIn v p ≡ found e → p ≡ collects v e
+collects-it : (v : ℕ) (e : Element) (p : Part) → elementIn v p ≡ some e → p ≡ collects v e
 collects-it v e (defines u t) f = let z : _≡_ {A = ℕ} 0 1 = (cc) in absurd (omega arith)
 collects-it v e (collects w x) f = go (eqb v w) refl f
   where
-    go : (b : Bool) → eqb v w ≡ b → pick b (found x) nothing ≡ found e → collects w x ≡ collects v e
+    go : (b : Bool) → eqb v w ≡ b → pick b (some x) none ≡ some e → collects w x ≡ collects v e
     go true h g = let i : v ≡ w = eqb-true v w h in cc
     go false h g = let z : _≡_ {A = ℕ} 0 1 = (cc) in absurd (omega arith)
 collects-it v e (states a p vs g) f = let z : _≡_ {A = ℕ} 0 1 = (cc) in absurd (omega arith)
@@ -75,15 +77,15 @@ element-line (guarded a p vs g u) v us c e = let z : _≡_ {A = ℕ} 0 1 = (cc) 
 element-line (comment bs) v us c e = let z : _≡_ {A = ℕ} 0 1 = (cc) in absurd (omega arith)
 
 -- an element is said by its line
-pub element-said : (ls : List Line) (v : ℕ) (us : List ℕ) (c : List Literal) → elementAt ls v ≡ found (elem us c) → Says ls (element v us c)
+pub element-said : (ls : List Line) (v : ℕ) (us : List ℕ) (c : List Literal) → elementAt ls v ≡ some (elem us c) → Says ls (element v us c)
 unfolding elementAt
 element-said [] v us c e = let z : _≡_ {A = ℕ} 0 1 = (cc) in absurd (omega arith)
 element-said (l ∷ ls) v us c e = go (elementIn v (partOf (l .says))) refl e (λ f. element-said ls v us c f)
   where
-    go : (x : Found Element) → elementIn v (partOf (l .says)) ≡ x → orElse x (elementAt ls v) ≡ found (elem us c)
-        → (elementAt ls v ≡ found (elem us c) → Says ls (element v us c)) → (l .says ≡ element v us c) ⊎ Says ls (element v us c)
-    go (found x) f g r = inl (element-line (l .says) v us c (collects-it v (elem us c) (partOf (l .says)) (f ∙ g)))
-    go nothing f g r = inr (r g)
+    go : (x : Option Element) → elementIn v (partOf (l .says)) ≡ x → orElse x (elementAt ls v) ≡ some (elem us c)
+        → (elementAt ls v ≡ some (elem us c) → Says ls (element v us c)) → (l .says ≡ element v us c) ⊎ Says ls (element v us c)
+    go (some x) f g r = inl (element-line (l .says) v us c (collects-it v (elem us c) (partOf (l .says)) (f ∙ g)))
+    go none f g r = inr (r g)
 
 -- ---- difference atoms
 

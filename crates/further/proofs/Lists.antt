@@ -4,8 +4,8 @@ use mathlib.Core.Path.{_≡_, refl, sym, _∙_}
 use mathlib.Core.Bool.{Bool, true, false, true≢false}
 use mathlib.Core.List.{List, _∷_}
 use lib.Dec.{eqb}
-use Rattle.faults.specs.Marks.{among}
-use Rattle.faults.proofs.Bools.{or-right}
+use Rattle.basics.specs.Lists.{among}
+use Rattle.basics.proofs.Bools.{or-right}
 
 -- ---- truth values
 

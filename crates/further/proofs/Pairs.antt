@@ -5,13 +5,13 @@ use mathlib.Core.Bool.{Bool, true, false, _&&_, not}
 use mathlib.Core.Logic.{inl, inr}
 use mathlib.Core.List.{List, [], _∷_, _++_}
 use lib.IntN.{pos}
-use Rattle.faults.specs.Marks.{among}
-use Rattle.faults.proofs.Bools.{and-cases}
-use Rattle.faults.proofs.Marks.{among-append}
+use Rattle.basics.specs.Lists.{among}
+use Rattle.basics.proofs.Bools.{and-cases}
+use Rattle.basics.proofs.Bitmaps.{among-append}
 use Rattle.aspif.specs.Statements.{Statement, Line}
 use Rattle.terms.specs.Terms.{taken}
 use Rattle.judge.specs.Plan.{Ready, ready}
-use Rattle.further.specs.Later.{atoms, terms, elements, Unused, Added, a-number, a-compound, an-element, an-atom, a-fact, Grown, none, keep, add, Later}
+use Rattle.further.specs.Later.{atoms, terms, elements, Unused, Added, a-number, a-compound, an-element, an-atom, a-fact, Grown, done, keep, add, Later}
 use Rattle.judge.proofs.Texts.{linesP}
 use Rattle.further.proofs.Texts.{linesWith}
 
@@ -54,7 +54,7 @@ module _ (eight c c′ w n : ℕ) where
       (add _ (a-compound 11 (pos 1) (10 ∷ []) (unused-so terms (linesP 40 eight 117 c) 11 refl))
       (add _ (an-element 2 (7 ∷ []) [] (unused-so elements (linesP 40 eight 117 c) 2 refl))
       (add _ (an-atom 4 0 (2 ∷ []) 2 11 refl)
-      none)))))))))))))))))))))
+      done)))))))))))))))))))))
 
   -- with every candidate that has not atom 4, the plan with the further rule is a later plan
   pub later : (cs : List ℕ) → among 4 cs ≡ false → Later (old eight c cs) (new eight c′ w n (cs ++ (4 ∷ []))) (4 ∷ [])

@@ -4,17 +4,18 @@ use mathlib.Core.Path.{_≡_, refl, sym, _∙_}
 use mathlib.Core.Bool.{Bool, true, false}
 use mathlib.Core.Logic.{_⊎_, inl, inr, ⊎-elim}
 use mathlib.Core.List.{List, [], _∷_, _++_}
+use mathlib.Core.Option.{some, none}
 use lib.Dec.{eqb}
 use lib.IntN.{ℤ, pos}
 use borrow.Author.Tests.{eqb-true}
-use Rattle.faults.specs.Marks.{among}
-use Rattle.faults.proofs.Marks.{first-in}
+use Rattle.basics.specs.Lists.{among}
+use Rattle.basics.proofs.Bitmaps.{first-in}
 use Rattle.aspif.specs.Statements.{Statement, compound, element, guarded, Line}
 use Rattle.diffs.specs.Diff.{Diff}
-use Rattle.terms.specs.Says.{comp, elem, partOf, found, nothing, termIn, term, elementIn, elementAt, Bound, plain, negated, Difference, Says as SaysDifference, Name}
+use Rattle.terms.specs.Says.{comp, elem, partOf, termIn, term, elementIn, elementAt, Bound, plain, negated, Difference, Says as SaysDifference, Name}
 use Rattle.stable.specs.Meaning.{Says}
 use Rattle.judge.specs.Plan.{Ready, holds, Held, InForce}
-use Rattle.further.specs.Later.{functor, terms, elements, Unused, Added, a-number, a-string, a-compound, an-element, an-atom, a-fact, Grown, none, keep, add, Later}
+use Rattle.further.specs.Later.{functor, terms, elements, Unused, Added, a-number, a-string, a-compound, an-element, an-atom, a-fact, Grown, done, keep, add, Later}
 use Rattle.further.proofs.Lists.{not-true, not-both, rest-in}
 use Rattle.further.proofs.Added.{says-on, says-back, unused-in, old-holds, candidate-same}
 use Rattle.further.proofs.Lines.{compound-said, element-said, says-stating, stating-says}
@@ -33,17 +34,17 @@ apart kind ls u v h i =
     not-true (eqb u v) (λ e. not-both (h .has) (unused-in kind ls u (rw (eqb-true u v e) i) (h .by) (h .line)))
 
 -- t and the arguments of a compound are used
-pub argument-used : (ls : List Line) (u : ℕ) (t : ℤ) (us : List ℕ) → term ls u ≡ found (comp t us) → (n : ℕ) → among n (functor t ++ us) ≡ true → Used terms ls n
+pub argument-used : (ls : List Line) (u : ℕ) (t : ℤ) (us : List ℕ) → term ls u ≡ some (comp t us) → (n : ℕ) → among n (functor t ++ us) ≡ true → Used terms ls n
 argument-used ls u t us e n h = record { by = compound u t us; line = compound-said ls u t us e; has = rest-in n u (functor t ++ us) h }
 
 -- the term of an element is used
-pub inside-used : (ls : List Line) (v w : ℕ) → elementAt ls v ≡ found (elem (w ∷ []) []) → Used terms ls w
+pub inside-used : (ls : List Line) (v w : ℕ) → elementAt ls v ≡ some (elem (w ∷ []) []) → Used terms ls w
 inside-used ls v w e = record { by = element v (w ∷ []) []; line = element-said ls v (w ∷ []) [] e; has = first-in w [] }
 
 -- ---- terms and elements that are used stand for the same
 
 module _ (ls : List Line) (new : List ℕ) where
-  added-term : (u : ℕ) → Used terms ls u → (s : Statement) → Added ls new s → termIn u (partOf s) ≡ nothing
+  added-term : (u : ℕ) → Used terms ls u → (s : Statement) → Added ls new s → termIn u (partOf s) ≡ none
   added-term u h s (a-number v w i) = rw (apart terms ls u v h i)
   added-term u h s (a-string v bs i) = rw (apart terms ls u v h i)
   added-term u h s (a-compound v t us i) = rw (apart terms ls u v h i)
@@ -51,7 +52,7 @@ module _ (ls : List Line) (new : List ℕ) where
   added-term u h s (an-atom a p vs g v i) = refl
   added-term u h s (a-fact a i) = refl
 
-  added-element : (v : ℕ) → Used elements ls v → (s : Statement) → Added ls new s → elementIn v (partOf s) ≡ nothing
+  added-element : (v : ℕ) → Used elements ls v → (s : Statement) → Added ls new s → elementIn v (partOf s) ≡ none
   added-element v h s (a-number u w i) = refl
   added-element v h s (a-string u bs i) = refl
   added-element v h s (a-compound u t us i) = refl
@@ -60,15 +61,15 @@ module _ (ls : List Line) (new : List ℕ) where
   added-element v h s (a-fact a i) = refl
 
 module _ (P : Statement → Type 0) where
-  term-grown : (u : ℕ) → ((s : Statement) → P s → termIn u (partOf s) ≡ nothing) → {ls ms : List Line} → Grown P ls ms → term ms u ≡ term ls u
+  term-grown : (u : ℕ) → ((s : Statement) → P s → termIn u (partOf s) ≡ none) → {ls ms : List Line} → Grown P ls ms → term ms u ≡ term ls u
   unfolding term
-  term-grown u f none = refl
+  term-grown u f done = refl
   term-grown u f (keep l m e g) = rw (e, term-grown u f g)
   term-grown u f (add m i g) = rw (f (m .says) i) (term-grown u f g)
 
-  element-grown : (v : ℕ) → ((s : Statement) → P s → elementIn v (partOf s) ≡ nothing) → {ls ms : List Line} → Grown P ls ms → elementAt ms v ≡ elementAt ls v
+  element-grown : (v : ℕ) → ((s : Statement) → P s → elementIn v (partOf s) ≡ none) → {ls ms : List Line} → Grown P ls ms → elementAt ms v ≡ elementAt ls v
   unfolding elementAt
-  element-grown v f none = refl
+  element-grown v f done = refl
   element-grown v f (keep l m e g) = rw (e, element-grown v f g)
   element-grown v f (add m i g) = rw (f (m .says) i) (element-grown v f g)
 

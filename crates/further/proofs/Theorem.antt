@@ -8,7 +8,7 @@ use native.Mathlib.Omega.{arith}
 use lib.IntN.{pos, _-ℤ_}
 use lib.Signed.{_≤ℤ_}
 use Rattle.faults.specs.Answer.{got}
-use Rattle.faults.specs.Marks.{among}
+use Rattle.basics.specs.Lists.{among}
 use Rattle.diffs.specs.Diff.{Diff, Keeps, KeepsAll, whole, Earliest}
 use Rattle.diffs.proofs.EarliestTimes.{none-earlier, nothing-moves}
 use Rattle.terms.specs.Says.{Says, Name}

@@ -11,13 +11,15 @@ use lib.Dec.{eqb, lit≤}
 use lib.IntN.{pos}
 use lib.ListN.{length}
 use lib.Signed.{ltZ-yes}
-use Rattle.faults.specs.Answer.{got, pick}
+use Rattle.basics.specs.Bools.{pick}
+use Rattle.basics.specs.Lists.{Some}
+use Rattle.faults.specs.Answer.{got}
 use Rattle.aspif.specs.Statements.{Line}
 use Rattle.aspif.specs.Candidate.{candidate}
 use Rattle.diffs.specs.Diff.{Diff, Keeps, whole, Earliest}
 use Rattle.diffs.proofs.EarliestTimes.{earliest-unique}
 use Rattle.diffs.proofs.Integers.{neg-up, keeps-holds, holds-keeps}
-use Rattle.terms.specs.Says.{Some, Says as SaysDifference, Name}
+use Rattle.terms.specs.Says.{Says as SaysDifference, Name}
 use Rattle.terms.specs.Terms.{Stated, differences}
 use Rattle.terms.proofs.Stating.{says-listed, listed-says}
 use Rattle.stable.specs.Meaning.{firstBroken}

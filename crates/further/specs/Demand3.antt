@@ -6,7 +6,7 @@ use mathlib.Core.Logic.{_↔_}
 use mathlib.Core.List.{List}
 use lib.ListN.{take}
 use Rattle.faults.specs.Answer.{Answer, got}
-use Rattle.faults.specs.Marks.{among}
+use Rattle.basics.specs.Lists.{among}
 use Rattle.diffs.specs.Diff.{Diff, Keeps, whole}
 use Rattle.timetable.specs.Times.{timeOf}
 use Rattle.terms.specs.Says.{Says, Name}

@@ -5,10 +5,9 @@ use mathlib.Core.Bool.{true, false, _||_}
 use mathlib.Core.Logic.{_⊎_}
 use mathlib.Core.List.{List, [], _∷_, _++_, map}
 use lib.IntN.{ℤ, pos, negsuc}
-use Rattle.faults.specs.Marks.{among}
+use Rattle.basics.specs.Lists.{among, All}
 use Rattle.aspif.specs.Statements.{Literal, Head, empty, single, choice, Statement, rule, output, numeric, string, compound, element, theory, guarded, comment, Line}
 use Rattle.aspif.specs.Words.{atomOf}
-use Rattle.diffs.specs.Diff.{All}
 use Rattle.terms.specs.Terms.{taken}
 use Rattle.stable.specs.Meaning.{Says}
 use Rattle.judge.specs.Plan.{Ready}
@@ -83,13 +82,13 @@ pub data Added (ls : List Line) (new : List ℕ) : Statement → Type 0 where
 
 -- the second list is the first, line by line in order, each at any place, with lines of P anywhere between
 pub data Grown (P : Statement → Type 0) : List Line → List Line → Type 0 where
-  none : Grown P [] []
+  done : Grown P [] []
   keep : (l m : Line) {ls ms : List Line} → l .says ≡ m .says → Grown P ls ms → Grown P (l ∷ ls) (m ∷ ms)
   add : (m : Line) {ls ms : List Line} → P (m .says) → Grown P ls ms → Grown P ls (m ∷ ms)
 
 -- p is the place of an old line, and p′ of the same line among the new
 abbrev pub Moved : {P : Statement → Type 0} {ls ms : List Line} → Grown P ls ms → (p p′ : ℕ) → Type 0
-Moved none p p′ = ⊥
+Moved done p p′ = ⊥
 Moved (keep l m e g) p p′ = ((l .place ≡ p) × (m .place ≡ p′)) ⊎ Moved g p p′
 Moved (add m h g) p p′ = Moved g p p′
 

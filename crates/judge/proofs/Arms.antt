@@ -9,7 +9,7 @@ use lib.Dec.{eqb}
 use lib.ListN.{getD}
 use types.Run.{OneOf}
 use denote.Enum.Declared.{tagOf}
-use Rattle.diffs.specs.Diff.{All}
+use Rattle.basics.specs.Lists.{All}
 use Rattle.faults.specs.Values.{number}
 use Rattle.faults.specs.declared.Kind.{Kind}
 use Rattle.faults.specs.declared.Kind.the-variants.{Room, Long, Grammar, Carried, Bounds, Terms, Candidate, Broken, Unfounded, Cycle, Late, NotTable, NotNamed}

@@ -7,12 +7,11 @@ use mathlib.Core.Logic.{_⊎_, inl, inr, ⊎-elim}
 use native.Mathlib.Omega.{arith}
 use borrow.Author.Tests.{eqb-true}
 use lib.Dec.{eqb}
-use Rattle.faults.specs.Marks.{among}
-use Rattle.faults.proofs.Bools.{or-right}
-use Rattle.faults.proofs.Marks.{first-in}
+use Rattle.basics.specs.Lists.{among, All, Ascending}
+use Rattle.basics.proofs.Bools.{or-right}
+use Rattle.basics.proofs.Bitmaps.{first-in}
 use Rattle.aspif.specs.Statements.{Line}
-use Rattle.diffs.specs.Diff.{All}
-use Rattle.terms.specs.Says.{Name, Names, Ascending}
+use Rattle.terms.specs.Says.{Name, Names}
 
 -- a member is the first or one of the others
 pub member : (k n : ℕ) (ns : List ℕ) → among k (n ∷ ns) ≡ true → (k ≡ n) ⊎ (among k ns ≡ true)

@@ -3,7 +3,7 @@ use Prim.Native.Nat.{ℕ}
 use mathlib.Core.Path.{_≡_, refl}
 use mathlib.Core.Bool.{false}
 use mathlib.Core.List.{List, [], _∷_}
-use Rattle.faults.specs.Marks.{isMarked, marks, markedFrom}
+use Rattle.basics.specs.inner.Bitmaps.{isMarked, marks, markedFrom}
 use Rattle.aspif.specs.Candidate.{atomsOf}
 
 -- no atom is 0

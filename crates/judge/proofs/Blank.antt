@@ -6,7 +6,7 @@ use native.Mathlib.Omega.{arith}
 use lib.IntN.{ℤ}
 use lib.ListN.{length, take, replicate, length-replicate}
 use lib.Seq.{length-take-le}
-use Rattle.faults.proofs.Lists.{zeros}
+use Rattle.basics.proofs.Lists.{zeros}
 use Rattle.diffs.specs.Answer.{Given}
 use Rattle.terms.specs.Values.{Roomy}
 use Rattle.judge.specs.Stages.{Labelled}

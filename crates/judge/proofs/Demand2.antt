@@ -6,8 +6,9 @@ use mathlib.Core.List.{List}
 use mathlib.Core.Logic.{_⊎_, inl, inr, _↔_}
 use native.Mathlib.Omega.{arith}
 use lib.ListN.{length, take}
-use Rattle.faults.specs.Answer.{Answer, got, refused, pick}
-use Rattle.faults.specs.Marks.{among}
+use Rattle.faults.specs.Answer.{Answer, got, refused}
+use Rattle.basics.specs.Bools.{pick}
+use Rattle.basics.specs.Lists.{among}
 use Rattle.diffs.specs.Diff.{whole, Earliest}
 use Rattle.terms.specs.Says.{Name, Names}
 use Rattle.terms.specs.Terms.{external}

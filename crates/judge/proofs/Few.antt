@@ -6,9 +6,9 @@ use mathlib.Core.List.{List, [], _∷_, map}
 use native.Mathlib.Omega.{arith}
 use lib.Dec.{lit<}
 use lib.ListN.{length, length-map}
-use Rattle.faults.specs.Answer.{pick}
-use Rattle.faults.specs.Marks.{isMarked}
-use Rattle.diffs.specs.Diff.{All, NotIn, Distinct}
+use Rattle.basics.specs.Bools.{pick}
+use Rattle.basics.specs.inner.Bitmaps.{isMarked}
+use Rattle.basics.specs.Lists.{All, NotIn, Distinct}
 use Rattle.diffs.proofs.Names.{pigeon}
 use Rattle.terms.specs.Terms.{Stated}
 use Rattle.judge.specs.Stages.{inForce, SmallStated}

@@ -7,12 +7,12 @@ use mathlib.Core.List.{List, [], _∷_, _++_}
 use native.Mathlib.Omega.{arith}
 use native.Mathlib.Decide.{decLt}
 use lib.ListN.{length, length-append}
-use Rattle.faults.specs.Answer.{pick}
-use Rattle.faults.specs.Marks.{isMarked}
-use Rattle.diffs.specs.Diff.{Diff, All}
+use Rattle.basics.specs.Bools.{pick}
+use Rattle.basics.specs.inner.Bitmaps.{isMarked}
+use Rattle.basics.specs.Lists.{All, Some}
+use Rattle.diffs.specs.Diff.{Diff}
 use Rattle.diffs.proofs.Choosing.{by-dec}
 use Rattle.diffs.proofs.Names.{all-left, all-right}
-use Rattle.terms.specs.Says.{Some}
 use Rattle.terms.specs.Terms.{Stated, Lists}
 use Rattle.terms.specs.Tables.{firsts}
 use Rattle.judge.specs.Stages.{inForce}

@@ -5,7 +5,7 @@ use mathlib.Core.List.{List}
 use lib.IntN.{ℤ, pos}
 use lib.ListN.{take}
 use lib.Seq.{getD-take}
-use Rattle.faults.proofs.Marks.{marked-holds}
+use Rattle.basics.proofs.Bitmaps.{marked-holds}
 use Rattle.aspif.specs.Statements.{Line}
 use Rattle.aspif.specs.Words.{word}
 use Rattle.diffs.specs.Diff.{Diff}

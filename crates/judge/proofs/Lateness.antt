@@ -8,7 +8,7 @@ use lib.ListN.{length, getD}
 use lib.IntN.{ℤ, pos, negsuc, negℤ}
 use lib.Signed.{_≤ℤ_}
 use Rattle.faults.specs.Answer.{got, refused}
-use Rattle.faults.specs.Marks.{markedFrom}
+use Rattle.basics.specs.inner.Bitmaps.{markedFrom}
 use Rattle.aspif.specs.Words.{Between}
 use Rattle.diffs.specs.Diff.{Diff, Earliest}
 use Rattle.diffs.specs.Answer.{at, diffAt, Among}

@@ -6,11 +6,10 @@ use mathlib.Core.List.{List, [], _∷_}
 use mathlib.Core.Logic.{inl, inr, ⊎-elim}
 use native.Mathlib.Omega.{arith}
 use borrow.Author.Tests.{eqb-true, eq-eqb}
-use Rattle.faults.specs.Marks.{among}
+use Rattle.basics.specs.Lists.{among, All}
+use Rattle.basics.proofs.Bools.{and-cases}
 use Rattle.aspif.specs.Statements.{Head, empty, single, choice, Statement, rule, output, numeric, string, compound, element, theory, guarded, comment, Line}
-use Rattle.diffs.specs.Diff.{All}
 use Rattle.stable.specs.Meaning.{Atoms, Says, bodyTrue, kept, positives, reductHead, Closed, Least, Founded, SmallestUnfounded}
-use Rattle.faults.proofs.Bools.{and-cases}
 use Rattle.judge.proofs.Ascent.{member, of-member}
 
 -- ---- the test

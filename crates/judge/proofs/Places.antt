@@ -3,11 +3,14 @@ use Prim.Native.Nat.{ℕ, suc, _≤_, _<_}
 use mathlib.Core.Path.{_≡_, refl, ap}
 use mathlib.Core.Bool.{Bool, true, false}
 use mathlib.Core.List.{List, [], _∷_, _++_}
+use mathlib.Core.Option.{Option, some, none}
 use native.Mathlib.Omega.{arith}
 use borrow.Author.Tests.{ltb-false}
 use lib.Dec.{ltb}
 use lib.ListN.{length, length-map}
-use Rattle.faults.specs.Answer.{Answer, got, refused, bind, mapped, pick}
+use Rattle.basics.specs.Bools.{pick}
+use Rattle.basics.specs.Lists.{All}
+use Rattle.faults.specs.Answer.{Answer, got, refused, bind, mapped}
 use Rattle.aspif.specs.Statements.{Line}
 use Rattle.aspif.specs.Words.{AllSmall}
 use Rattle.aspif.specs.Grammar.{statements}
@@ -15,10 +18,10 @@ use Rattle.aspif.specs.Candidate.{candidate, AscendingFrom}
 use Rattle.aspif.proofs.Bounds.{statements-small}
 use Rattle.aspif.proofs.Inside.{statements-place}
 use Rattle.aspif.proofs.Candidates.{candidate-ascending, candidate-near}
-use Rattle.diffs.specs.Diff.{Diff, All, firsts}
+use Rattle.diffs.specs.Diff.{Diff, firsts}
 use Rattle.diffs.proofs.Names.{pigeon}
 use Rattle.terms.specs.Terms.{Stated, statedBy, known, faulty, more, differencesFrom, differences}
-use Rattle.terms.specs.Says.{Found, found, nothing, partOf}
+use Rattle.terms.specs.Says.{partOf}
 use Rattle.stable.specs.Meaning.{Atoms, broken, brokenAt, firstBroken}
 use Rattle.timetable.proofs.RoundTrip.{longest}
 use Rattle.judge.specs.Plan.{Asked, Rooms, Ready, ready, lent, legible, pair, readable, InForce}
@@ -47,11 +50,11 @@ differences-place before (l ∷ ls) k p h e =
     go (faulty (known before) (partOf (l .says))) (statedBy (known before) (partOf (l .says))) (differencesFrom (before ++ (l ∷ [])) ls)
     (differences-place (before ++ (l ∷ [])) ls k p (h .1)) e
   where
-    go : (t : Bool) (f : Found Stated) (a : Answer (List Stated)) → (a ≡ refused k p → p ≤ 60000) → pick t (refused 6 (l .place)) (more f a) ≡ refused k p → p ≤ 60000
+    go : (t : Bool) (f : Option Stated) (a : Answer (List Stated)) → (a ≡ refused k p → p ≤ 60000) → pick t (refused 6 (l .place)) (more f a) ≡ refused k p → p ≤ 60000
     go true f a r e = omega (arith, place-of e, h .0 .0)
-    go false (found d) (got ds) r e = absurd (never e)
-    go false (found d) (refused i q) r e = r e
-    go false nothing a r e = r e
+    go false (some d) (got ds) r e = absurd (never e)
+    go false (some d) (refused i q) r e = r e
+    go false none a r e = r e
 
 -- the first broken rule stands where a line does
 broken-place : (X : Atoms) (ls : List Line) (p : ℕ) → AllSmall ls → firstBroken X ls ≡ brokenAt p → p ≤ 60000

@@ -7,7 +7,8 @@ use native.Mathlib.Omega.{arith}
 use borrow.Author.Tests.{ltb-false, le-ltb}
 use lib.Dec.{ltb}
 use lib.ListN.{length}
-use Rattle.faults.specs.Answer.{Answer, got, refused, bind, mapped, pick}
+use Rattle.basics.specs.Bools.{pick}
+use Rattle.faults.specs.Answer.{Answer, got, refused, bind, mapped}
 use Rattle.aspif.specs.Statements.{Line}
 use Rattle.aspif.specs.Grammar.{statements}
 use Rattle.aspif.specs.Candidate.{candidate}

@@ -10,14 +10,15 @@ use borrow.Author.Tests.{eqb-true}
 use lib.Dec.{eqb, lit<}
 use lib.IntN.{ℤ, pos, negℤ, _+ℤ_}
 use lib.Signed.{_<ℤ_}
-use Rattle.faults.specs.Answer.{got, pick}
-use Rattle.faults.specs.Marks.{among}
+use Rattle.faults.specs.Answer.{got}
+use Rattle.basics.specs.Bools.{pick}
+use Rattle.basics.specs.Lists.{among, Some}
 use Rattle.diffs.specs.Diff.{Diff, Keeps, KeepsAll, whole, Earliest, Sum, Cycle}
 use Rattle.diffs.specs.Answer.{LeastFirst}
 use Rattle.diffs.proofs.Cycles.{exclusive}
 use Rattle.diffs.proofs.EarliestTimes.{earliest-unique}
 use Rattle.diffs.proofs.Integers.{up-lt, add-up, neg-up, keeps-holds, holds-keeps}
-use Rattle.terms.specs.Says.{Some, Name, Names}
+use Rattle.terms.specs.Says.{Name, Names}
 use Rattle.terms.specs.Terms.{Stated, differences}
 use Rattle.terms.proofs.Stating.{says-listed, listed-says}
 use Rattle.timetable.specs.Table.{tableOf}

@@ -6,9 +6,10 @@ use mathlib.Core.List.{List, [], _∷_, map}
 use native.Mathlib.Omega.{arith}
 use lib.IntN.{ℤ}
 use lib.ListN.{take, length-map}
-use Rattle.faults.specs.Marks.{among, markedFrom}
+use Rattle.basics.specs.Lists.{among, All}
+use Rattle.basics.specs.inner.Bitmaps.{markedFrom}
 use Rattle.aspif.specs.Statements.{Line}
-use Rattle.diffs.specs.Diff.{Diff, All, Earliest}
+use Rattle.diffs.specs.Diff.{Diff, Earliest}
 use Rattle.diffs.specs.Answer.{at, diffAt, Among, Shown, Decided}
 use Rattle.diffs.specs.declared.Outcome.{Outcome}
 use Rattle.timetable.specs.Given.{timeAt}

@@ -8,8 +8,9 @@ use borrow.Author.Tests.{ne-eqb, le-ltb}
 use lib.IntN.{ℤ}
 use lib.ListN.{length, take, replicate, length-replicate}
 use Rattle.faults.specs.Answer.{got, refused}
-use Rattle.faults.specs.Marks.{among, isMarked}
-use Rattle.faults.proofs.Marks.{marked-holds}
+use Rattle.basics.specs.Lists.{among}
+use Rattle.basics.specs.inner.Bitmaps.{isMarked}
+use Rattle.basics.proofs.Bitmaps.{marked-holds}
 use Rattle.aspif.specs.Statements.{Line}
 use Rattle.aspif.specs.Grammar.{statements}
 use Rattle.aspif.specs.Words.{linesOf, Taped}

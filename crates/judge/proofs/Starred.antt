@@ -9,7 +9,7 @@ use lib.Dec.{eqb, lit≤, lit<}
 use lib.IntN.{pos, negsuc, negℤ, _+ℤ_}
 use lib.ListN.{length}
 use Rattle.faults.specs.Answer.{got}
-use Rattle.faults.specs.Marks.{among}
+use Rattle.basics.specs.Lists.{among}
 use Rattle.aspif.specs.Statements.{positive, single, choice, Line}
 use Rattle.aspif.specs.Candidate.{candidate}
 use Rattle.diffs.specs.Diff.{whole}

@@ -9,16 +9,17 @@ use borrow.Author.Tests.{eqb-true, eqb-false, eq-eqb, ne-eqb, le-leb, le-ltb}
 use lib.Dec.{eqb}
 use lib.ListN.{length, take}
 use lib.Seq.{take-append-seam}
-use Rattle.faults.specs.Answer.{got, refused, pick}
-use Rattle.faults.specs.Marks.{among}
+use Rattle.faults.specs.Answer.{got, refused}
+use Rattle.basics.specs.Bools.{pick}
+use Rattle.basics.specs.Lists.{among, All, Ascending}
 use Rattle.aspif.specs.Candidate.{AscendingFrom}
 use Rattle.aspif.specs.Words.{AllSmall}
 use Rattle.aspif.proofs.Bounds.{statements-small}
 use Rattle.aspif.proofs.Candidates.{candidate-ascending}
-use Rattle.diffs.specs.Diff.{Diff, Earliest, All}
+use Rattle.diffs.specs.Diff.{Diff, Earliest}
 use Rattle.diffs.proofs.Latest.{latest as latest-time}
 use Rattle.diffs.proofs.Names.{all-map}
-use Rattle.terms.specs.Says.{Name, Names, Ascending}
+use Rattle.terms.specs.Says.{Name, Names}
 use Rattle.terms.specs.Terms.{SmallDiff}
 use Rattle.timetable.specs.Table.{Content, tableOf, lastTerm, latest, lastAtom, ascending, inTime, namesOf, within}
 use Rattle.timetable.specs.Times.{timeAmong, timeOf}

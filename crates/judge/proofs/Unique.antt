@@ -8,10 +8,11 @@ use native.Mathlib.Omega.{arith}
 use native.Mathlib.Decide.{decLt}
 use lib.IntN.{ℤ}
 use denote.Ref.{RefT, now}
+use Rattle.basics.specs.Lists.{All}
 use Rattle.faults.specs.Answer.{Answer, got}
 use Rattle.faults.specs.Values.{number}
 use Rattle.faults.specs.declared.Refusal.{Refusal}
-use Rattle.diffs.specs.Diff.{Diff, KeepsAll, whole, All, NegCycle}
+use Rattle.diffs.specs.Diff.{Diff, KeepsAll, whole, NegCycle}
 use Rattle.diffs.proofs.Cycles.{exclusive}
 use Rattle.diffs.proofs.EarliestTimes.{earliest-unique}
 use Rattle.terms.specs.Terms.{external}

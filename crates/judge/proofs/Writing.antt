@@ -2,7 +2,7 @@
 use Prim.Native.Nat.{ℕ}
 use mathlib.Core.Path.{_≡_}
 use mathlib.Core.List.{List}
-use Rattle.faults.specs.Marks.{markedFrom}
+use Rattle.basics.specs.inner.Bitmaps.{markedFrom}
 use Rattle.faults.specs.Values.{refusalOf}
 use Rattle.faults.specs.declared.Refusal.{Refusal}
 use Rattle.faults.specs.declared.Step.{Step}

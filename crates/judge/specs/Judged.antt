@@ -7,7 +7,8 @@ use lib.Dec.{ltb}
 use lib.IntN.{pos}
 use lib.ListN.{length, drop}
 use lib.Signed.{_<ℤ_}
-use Rattle.faults.specs.Answer.{Answer, got, refused, mapped, pick}
+use Rattle.basics.specs.Bools.{pick}
+use Rattle.faults.specs.Answer.{Answer, got, refused, mapped}
 use Rattle.diffs.specs.Diff.{Diff, Earliest, Sum, Cycle}
 use Rattle.diffs.specs.Answer.{LeastFirst}
 use Rattle.timetable.specs.Table.{tableOf}

@@ -5,8 +5,9 @@ use mathlib.Core.Bool.{Bool, true}
 use mathlib.Core.List.{List}
 use lib.Dec.{ltb}
 use lib.ListN.{length}
-use Rattle.faults.specs.Answer.{Answer, got, refused, bind, mapped, pick}
-use Rattle.faults.specs.Marks.{among}
+use Rattle.faults.specs.Answer.{Answer, got, refused, bind, mapped}
+use Rattle.basics.specs.Bools.{pick}
+use Rattle.basics.specs.Lists.{among}
 use Rattle.aspif.specs.Statements.{Line}
 use Rattle.aspif.specs.Grammar.{statements}
 use Rattle.aspif.specs.Candidate.{candidate}

@@ -6,7 +6,7 @@ use mathlib.Core.List.{List, []}
 use lib.Dec.{eqb}
 use lib.ListN.{length, drop}
 use denote.Ref.{RefT, ptr, now}
-use Rattle.faults.specs.Answer.{pick}
+use Rattle.basics.specs.Bools.{pick}
 use Rattle.fields.specs.Fields.{upTo}
 
 -- byte 10

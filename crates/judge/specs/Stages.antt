@@ -5,12 +5,14 @@ use mathlib.Core.Bool.{false}
 use mathlib.Core.List.{List, [], _∷_, map}
 use lib.IntN.{ℤ, pos}
 use lib.ListN.{length, getD}
-use Rattle.faults.specs.Answer.{got, pick}
-use Rattle.faults.specs.Marks.{isMarked, markedFrom}
+use Rattle.faults.specs.Answer.{got}
+use Rattle.basics.specs.Bools.{pick}
+use Rattle.basics.specs.inner.Bitmaps.{isMarked, markedFrom}
+use Rattle.basics.specs.Lists.{All, Distinct}
 use Rattle.aspif.specs.Statements.{Line}
 use Rattle.aspif.specs.Words.{Between, AllSmall}
 use Rattle.aspif.specs.Candidate.{atomsOf}
-use Rattle.diffs.specs.Diff.{Diff, Earliest, All, Distinct}
+use Rattle.diffs.specs.Diff.{Diff, Earliest}
 use Rattle.terms.specs.Terms.{Stated, differences, SmallDiff}
 use Rattle.terms.specs.Tables.{firsts, heldAt}
 use Rattle.terms.specs.Values.{Roomy}

@@ -3,7 +3,7 @@ ghost use mathlib.Core.Path.{_≡_};
 ghost use mathlib.Core.List.{List};
 ghost use Prim.Native.Nat.{ℕ};
 ghost use lib.ListN.{length};
-ghost use Rattle.faults.specs.Marks.{markedFrom};
+ghost use Rattle.basics.specs.inner.Bitmaps.{markedFrom};
 ghost use Rattle.aspif.specs.Statements.{Line};
 ghost use Rattle.diffs.specs.Answer.{diffAt};
 ghost use Rattle.timetable.specs.Given.{timeAt};

@@ -7,7 +7,8 @@ use native.Mathlib.Omega.{arith}
 use borrow.Author.Tests.{eq-eqb, ne-eqb}
 use lib.Dec.{eqb}
 use lib.ListN.{length}
-use Rattle.faults.specs.Answer.{Answer, got, refused, pick}
+use Rattle.basics.specs.Bools.{pick}
+use Rattle.faults.specs.Answer.{Answer, got, refused}
 use Rattle.faults.specs.Values.{number}
 use Rattle.faults.specs.declared.Kind.{Kind}
 use Rattle.faults.specs.declared.Kind.the-variants.{Grammar, Carried, Bounds, Terms, Candidate, Broken}

@@ -2,7 +2,8 @@
 use Prim.Native.Nat.{ℕ, _+_, _*_, _%_}
 use mathlib.Core.Path.{_≡_}
 use lib.Dec.{eqb}
-use Rattle.faults.specs.Answer.{Answer, got, refused, pick}
+use Rattle.basics.specs.Bools.{pick}
+use Rattle.faults.specs.Answer.{Answer, got, refused}
 use Rattle.faults.specs.Values.{number}
 use Rattle.faults.specs.declared.Kind.{Kind}
 use Rattle.judge.specs.Plan.{Asked, Rooms}

@@ -8,7 +8,8 @@ use lib.Dec.{eqb, ltb}
 use native.Mathlib.Nat.{zero-add}
 use lib.Seq.{sets-eq}
 use lib.ListN.{length, take, drop, replicate, length-append, length-take}
-use Rattle.faults.specs.Answer.{got, pick}
+use Rattle.basics.specs.Bools.{pick}
+use Rattle.faults.specs.Answer.{got}
 use Rattle.timetable.specs.Table.{Record, Content, tableOf, nameCount, atomCount, recordsAt, within}
 use Rattle.timetable.proofs.Bounds.{names-few}
 use Rattle.timetable.proofs.Content.{records-length, front-back}

@@ -8,7 +8,7 @@ use lib.Dec.{eqb}
 use lib.ListN.{length, getD, take, drop, drop-of-length-le}
 use lib.Seq.{drop-cons}
 use Rattle.timetable.specs.Word.{wordAt}
-use Rattle.faults.specs.Answer.{pick}
+use Rattle.basics.specs.Bools.{pick}
 use Rattle.timetable.specs.Table.{nameCount, atomCount, recordsAt}
 use Rattle.report.specs.Report.{decimal, next, two, nexts, listLine, recordLine, recordLines, accepted, refused, acceptedLines, refusedLines}
 use Rattle.report.specs.Steps.{Put, Fits}

@@ -5,13 +5,13 @@ use mathlib.Core.List.{List}
 use mathlib.Core.Path.{_≡_, refl, ap, _∙_, sym}
 use native.Mathlib.Omega.{arith}
 use lib.ListN.{length, getD}
-use Rattle.faults.specs.Answer.{pick}
+use Rattle.basics.specs.Bools.{pick}
+use Rattle.basics.proofs.Bools.{and-none, and-all}
 use Rattle.aspif.specs.Grammar.{plainHead}
 use Rattle.aspif.specs.Words.{word, listAt, literalsAt, after, saysAt, linesFrom, Taped}
 use Rattle.stable.specs.Meaning.{Atoms, bodyTrue, brokenRule, broken, unbroken, brokenAt, firstBroken}
 use Rattle.stable.specs.Index.{headAt, bodyAt, RuleAt, Ahead}
 use Rattle.stable.specs.Steps.{holds}
-use Rattle.faults.proofs.Bools.{and-none, and-all}
 use Rattle.stable.proofs.Heads.{no-head, one-head, choice-head, plain-head, inside, atom, heads-inside, plain-small, body-holds}
 use Rattle.stable.proofs.Reduct.{holds-self}
 use Rattle.stable.proofs.Lines.{rule-says, other-says, after-above, whole, Next, next-of, one-less, rule-at, ahead-of}

@@ -7,7 +7,7 @@ use mathlib.Core.Path.{_≡_, refl, sym}
 use native.Mathlib.Omega.{arith}
 use lib.IntN.{pos}
 use Rattle.aspif.specs.Statements.{Literal, positive, negated, Head, single, choice, Statement, rule, numeric, string, compound, element, guarded, Line}
-use Rattle.faults.specs.Marks.{among}
+use Rattle.basics.specs.Lists.{among}
 use Rattle.stable.specs.Meaning.{Atoms, unbroken, brokenAt, firstBroken, kept, positives, bodyTrue, reductHead, Closed, Least, Unfounded, SmallestUnfounded, Stable}
 use Rattle.terms.specs.Says.{headed}
 use Rattle.terms.specs.Terms.{taken, external}

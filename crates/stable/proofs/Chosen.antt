@@ -7,10 +7,11 @@ use native.Mathlib.Omega.{arith}
 use borrow.Author.Tests.{eq-eqb, ne-eqb, eqb-true}
 use lib.Dec.{eqb}
 use lib.ListN.{length, getD, length-set}
-use Rattle.faults.specs.Marks.{among, isMarked}
+use Rattle.basics.specs.Lists.{among}
+use Rattle.basics.specs.inner.Bitmaps.{isMarked}
+use Rattle.basics.proofs.Bools.{or-none}
 use Rattle.aspif.specs.Words.{word, wordsFrom, listAt, AllBelow}
 use Rattle.stable.specs.Steps.{Grown, Marked, Added}
-use Rattle.faults.proofs.Bools.{or-none}
 use Rattle.stable.proofs.Lists.{words-cons}
 use Rattle.stable.proofs.Marks.{marked-le, grown-refl, grown-trans, member-set}
 

@@ -9,7 +9,7 @@ use borrow.Author.Count.{below-more}
 use lib.Dec.{eqb}
 use lib.ListN.{length, getD, set, length-set, List·getD-eq-default}
 use lib.Seq.{getD-set-same, getD-set-other}
-use Rattle.faults.specs.Marks.{isMarked}
+use Rattle.basics.specs.inner.Bitmaps.{isMarked}
 use Rattle.stable.specs.Steps.{Both}
 
 -- no atom is past the end

@@ -8,14 +8,15 @@ use borrow.Author.Tests.{eq-eqb, ne-eqb}
 use lib.Dec.{eqb}
 use lib.ListN.{length, getD}
 use Rattle.aspif.specs.Statements.{empty, single, choice}
-use Rattle.faults.specs.Marks.{among, isMarked}
+use Rattle.basics.specs.Lists.{among}
+use Rattle.basics.specs.inner.Bitmaps.{isMarked}
+use Rattle.basics.proofs.Bools.{or-none, or-swap}
 use Rattle.aspif.specs.Grammar.{plainHead}
 use Rattle.aspif.specs.Words.{word, wordsFrom, listAt, literalsAt, behind, SmallHead, AllBelow}
 use Rattle.stable.specs.Meaning.{Atoms, reductHead}
 use Rattle.terms.specs.Says.{inHead}
 use Rattle.stable.specs.Index.{headAt, bodyAt, LiteralsAt, RuleAt}
 use Rattle.stable.specs.Steps.{holds, fires, Marked, Added}
-use Rattle.faults.proofs.Bools.{or-none, or-swap}
 use Rattle.stable.proofs.Lists.{words-cons}
 use Rattle.stable.proofs.Marks.{grown-refl, member-set}
 

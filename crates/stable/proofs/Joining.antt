@@ -12,7 +12,7 @@ use lib.Seq.{getD-take, length-take-le}
 use Rattle.aspif.specs.Statements.{Literal, Head, rule, Line}
 use Rattle.aspif.specs.Words.{word, after, lineAt, linesFrom, linesOf}
 use Rattle.stable.specs.Meaning.{Atoms, Says, kept, positives, bodyTrue, reductHead, Closed, Least, Founding, founded, unfoundedAt, FoundedBy}
-use Rattle.faults.specs.Marks.{isMarked}
+use Rattle.basics.specs.inner.Bitmaps.{isMarked}
 use Rattle.stable.specs.Index.{headAt, bodyAt, RuleAt, Ahead, rulePlaces, Indexed}
 use Rattle.stable.specs.Steps.{ClosedBy, Readable, LeastBy, Sought}
 use Rattle.stable.proofs.Lines.{isRule, rule-says, other-says, next, rule-at}

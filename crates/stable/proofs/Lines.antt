@@ -12,7 +12,7 @@ use Rattle.aspif.specs.Words.{word, behind, after, saysAt, linesFrom, Within, S
 use Rattle.aspif.proofs.Walking.{within-starts}
 use Rattle.stable.specs.Meaning.{Atoms, broken}
 use Rattle.stable.specs.Index.{headAt, bodyAt, RuleAt, Ahead}
-use Rattle.faults.proofs.Bools.{picked}
+use Rattle.basics.proofs.Bools.{picked}
 
 -- a statement is a rule
 abbrev pub isRule : Statement → Bool

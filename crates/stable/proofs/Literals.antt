@@ -7,11 +7,11 @@ use native.Mathlib.Omega.{arith}
 use borrow.Author.Tests.{eq-eqb, ne-eqb}
 use lib.Dec.{eqb}
 use lib.ListN.{length, getD}
-use Rattle.faults.specs.Answer.{pick}
+use Rattle.basics.specs.Bools.{pick}
+use Rattle.basics.specs.inner.Bitmaps.{isMarked}
 use Rattle.aspif.specs.Statements.{positive, negated}
 use Rattle.aspif.specs.Grammar.{literalOf}
 use Rattle.aspif.specs.Words.{word, wordsFrom, atomOf, SmallLiterals}
-use Rattle.faults.specs.Marks.{isMarked}
 use Rattle.stable.specs.Index.{LiteralsAt}
 use Rattle.stable.specs.Steps.{holds, literalHolds}
 use Rattle.stable.proofs.Lists.{words-cons}

@@ -8,7 +8,7 @@ use borrow.Author.Tests.{ne-eqb, eqb-true, eqb-false}
 use lib.Dec.{eqb}
 use lib.ListN.{length, getD, set}
 use lib.Seq.{getD-set-same, getD-set-other, set-getD}
-use Rattle.faults.specs.Marks.{isMarked}
+use Rattle.basics.specs.inner.Bitmaps.{isMarked}
 use Rattle.stable.specs.Steps.{marked, Grown, Marked}
 
 bit-le : (b : Bool) → cond b 1 0 ≤ 1

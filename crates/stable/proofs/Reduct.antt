@@ -6,7 +6,7 @@ use mathlib.Core.Path.{_≡_, refl, ap, _∙_, sym}
 use Rattle.aspif.specs.Statements.{Literal, positive, negated}
 use Rattle.stable.specs.Meaning.{Atoms, bodyTrue, kept, positives}
 use Rattle.stable.specs.Steps.{holds}
-use Rattle.faults.proofs.Bools.{and-swap, and-assoc}
+use Rattle.basics.proofs.Bools.{and-swap, and-assoc}
 
 -- one set for both signs is plain truth
 pub holds-self : (X : Atoms) (b : List Literal) → holds X X b ≡ bodyTrue X b

@@ -9,10 +9,10 @@ use borrow.Author.Count.{below-more}
 use lib.ListN.{length, getD}
 use Rattle.aspif.specs.Words.{word}
 use Rattle.stable.specs.Meaning.{Atoms, reductHead, kept, positives, bodyTrue}
-use Rattle.faults.specs.Marks.{isMarked}
+use Rattle.basics.specs.inner.Bitmaps.{isMarked}
+use Rattle.basics.proofs.Bools.{or-left, or-right, or-cases, and-cases, and-both}
 use Rattle.stable.specs.Index.{headAt, bodyAt, RuleAt}
 use Rattle.stable.specs.Steps.{holds, marked, Grown, Added, fires, ruleFires, ClosedBy, Readable, Round, Both, LeastBy}
-use Rattle.faults.proofs.Bools.{or-left, or-right, or-cases, and-cases, and-both}
 use Rattle.stable.proofs.Marks.{grown-refl, grown-trans, marked-le}
 use Rattle.stable.proofs.Reduct.{holds-reduct, holds-mono}
 

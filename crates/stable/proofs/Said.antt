@@ -7,10 +7,9 @@ use mathlib.Core.Path.{_≡_, refl, subst, sym}
 use borrow.Author.Tests.{eqb-true}
 use lib.Dec.{eqb}
 use Rattle.aspif.specs.Statements.{Literal, Head, Statement, rule, output, numeric, string, compound, element, theory, guarded, comment, Line}
-use Rattle.faults.specs.Marks.{among}
+use Rattle.basics.specs.Lists.{among, All}
+use Rattle.basics.proofs.Bools.{or-cases}
 use Rattle.stable.specs.Meaning.{Says}
-use Rattle.faults.proofs.Bools.{or-cases}
-use Rattle.diffs.specs.Diff.{All}
 
 -- P holds of a rule's head and body; of nothing else anything is asked
 abbrev pub OfRule : (Head → List Literal → Type 0) → Statement → Type 0

@@ -8,9 +8,9 @@ use native.Mathlib.Decide.{decLt}
 use native.Mathlib.Omega.{arith}
 use borrow.Author.Tests.{eqb-true}
 use Rattle.aspif.specs.Statements.{Literal, Head, empty, single, choice, rule, Line}
-use Rattle.faults.specs.Marks.{among}
+use Rattle.basics.specs.Lists.{among}
+use Rattle.basics.proofs.Bools.{and-cases, and-both}
 use Rattle.stable.specs.Meaning.{Atoms, bodyTrue, brokenRule, Unbroken, unbroken, firstBroken, kept, reductHead, Closed, Least, Unfounded, Founded, SmallestUnfounded, Founding, founded, unfoundedAt, FoundedBy, Stable}
-use Rattle.faults.proofs.Bools.{and-cases, and-both}
 use Rattle.stable.proofs.Reduct.{holds-self, holds-reduct, positives-mono}
 use Rattle.stable.proofs.FirstBroken.{unbroken-iff}
 

@@ -10,12 +10,12 @@ use lib.Dec.{lit≤}
 use lib.IntN.{pos}
 use lib.ListN.{length, set, replicate, length-set, length-replicate}
 use Rattle.aspif.specs.Statements.{Literal, positive, Head, single, choice, Statement, rule, numeric, string, compound, element, guarded, Line}
-use Rattle.faults.specs.Marks.{among}
+use Rattle.basics.specs.Lists.{among}
+use Rattle.basics.proofs.Bools.{and-cases}
 use Rattle.aspif.specs.Words.{word, wordsFrom, after, saysAt, allWords, linesFrom, linesOf, Within, AllSmall, Taped}
 use Rattle.stable.specs.Meaning.{Atoms, unbroken, brokenAt, firstBroken, kept, positives, bodyTrue, reductHead, Closed, Least, Unfounded, SmallestUnfounded, Stable}
 use Rattle.terms.specs.Says.{headed}
 use Rattle.terms.specs.Terms.{taken, external}
-use Rattle.faults.proofs.Bools.{and-cases}
 use Rattle.stable.proofs.Said.{OfRule, each-said, each-atom}
 use Rattle.stable.proofs.Stability.{stable-answers}
 

@@ -4,7 +4,7 @@ use mathlib.Core.Path.{_≡_}
 use mathlib.Core.List.{List, [], _∷_}
 use lib.Dec.{eqb}
 use lib.ListN.{length, take}
-use Rattle.faults.specs.Answer.{pick}
+use Rattle.basics.specs.Bools.{pick}
 use Rattle.aspif.specs.Statements.{Literal, Head}
 use Rattle.aspif.specs.Grammar.{headOf}
 use Rattle.aspif.specs.Words.{word, listAt, literalsAt, behind, linesFrom, after, Within, SmallHead, SmallLiterals, AllSmall}

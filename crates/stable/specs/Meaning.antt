@@ -5,9 +5,9 @@ use mathlib.Core.Logic.{_↔_, _⊎_}
 use mathlib.Core.Bool.{Bool, true, false, not, _&&_}
 use mathlib.Core.List.{List, [], _∷_}
 use lib.Dec.{eqb}
-use Rattle.faults.specs.Answer.{pick}
+use Rattle.basics.specs.Bools.{pick}
+use Rattle.basics.specs.Lists.{among}
 use Rattle.aspif.specs.Statements.{Literal, positive, negated, Head, empty, single, choice, Statement, rule, output, numeric, string, compound, element, theory, guarded, comment, Line}
-use Rattle.faults.specs.Marks.{among}
 
 -- a set of atoms
 abbrev pub Atoms : Type 0

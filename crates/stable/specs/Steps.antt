@@ -8,7 +8,7 @@ use lib.ListN.{length, set}
 use Rattle.aspif.specs.Statements.{Literal, positive, negated, Head}
 use Rattle.aspif.specs.Words.{word}
 use Rattle.stable.specs.Meaning.{Atoms, bodyTrue, kept, positives, reductHead, Founding, founded, unfoundedAt}
-use Rattle.faults.specs.Marks.{isMarked}
+use Rattle.basics.specs.inner.Bitmaps.{isMarked}
 use Rattle.stable.specs.Index.{headAt, bodyAt, RuleAt}
 
 -- truth of a body in the reduct, in one walk: negated atoms are looked up in X, the others in S

@@ -4,15 +4,18 @@ use mathlib.Core.Path.{_≡_, refl}
 use mathlib.Core.Logic.{inl, inr, ⊎-elim}
 use mathlib.Core.List.{List, [], _∷_, map}
 use mathlib.Core.Bool.{Bool, true, false}
+use mathlib.Core.Option.{Option, some, none}
 use lib.ListN.{length, length-map}
 use lib.Dec.{eqb}
 use lib.IntN.{ℤ, pos, negsuc, negℤ}
-use Rattle.faults.specs.Answer.{got, pick}
+use Rattle.basics.specs.Bools.{pick}
+use Rattle.basics.specs.Lists.{All, Some}
+use Rattle.faults.specs.Answer.{got}
 use Rattle.aspif.specs.Statements.{Statement, rule, output, numeric, string, compound, element, theory, guarded, comment, Line}
 use Rattle.aspif.specs.Words.{AllBelow, Between, Small, AllSmall}
-use Rattle.diffs.specs.Diff.{Diff, All}
+use Rattle.diffs.specs.Diff.{Diff}
 use Rattle.diffs.proofs.Names.{pigeon}
-use Rattle.terms.specs.Says.{Term, num, str, comp, Part, defines, collects, states, other, guard, unguarded, partOf, Found, found, nothing, orElse, termIn, term, Bound, plain, negated, Difference, SaysIn, Some, Says}
+use Rattle.terms.specs.Says.{Term, num, str, comp, Part, defines, collects, states, other, guard, unguarded, partOf, orElse, termIn, term, Bound, plain, negated, Difference, SaysIn, Says}
 use Rattle.terms.specs.Terms.{Stated, differences, Lists, SmallDiff}
 use Rattle.terms.proofs.Differing.{never}
 use Rattle.terms.proofs.Stating.{listed-says, atoms-differ}
@@ -41,20 +44,20 @@ small-part (theory a p vs) q = q .0
 small-part (guarded a p vs g u) q = q .0
 small-part (comment bs) q = tt
 
-small-found : {x y : Term} → found x ≡ found y → SmallTerm x → SmallTerm y
+small-found : {x y : Term} → some x ≡ some y → SmallTerm x → SmallTerm y
 small-found {x} {y} e q = let h : x ≡ y = cc e in rw (← h) q
 
-small-in : (s : Part) (u : ℕ) (r : Found Term) (x : Term) → SmallPart s → (r ≡ found x → SmallTerm x) → orElse (termIn u s) r ≡ found x → SmallTerm x
+small-in : (s : Part) (u : ℕ) (r : Option Term) (x : Term) → SmallPart s → (r ≡ some x → SmallTerm x) → orElse (termIn u s) r ≡ some x → SmallTerm x
 small-in (defines v y) u r x q k = go (eqb u v)
   where
-    go : (b : Bool) → orElse (pick b (found y) nothing) r ≡ found x → SmallTerm x
+    go : (b : Bool) → orElse (pick b (some y) none) r ≡ some x → SmallTerm x
     go true e = small-found e q
     go false e = k e
 small-in (collects v e) u r x q k = k
 small-in (states a p vs g) u r x q k = k
 small-in other u r x q k = k
 
-small-term : (ls : List Line) (u : ℕ) (x : Term) → AllSmall ls → term ls u ≡ found x → SmallTerm x
+small-term : (ls : List Line) (u : ℕ) (x : Term) → AllSmall ls → term ls u ≡ some x → SmallTerm x
 unfolding term
 small-term [] u x q e = absurd (never e)
 small-term (l ∷ ls) u x q e = small-in (partOf (l .says)) u (term ls u) x (small-part (l .says) (q .0 .1)) (small-term ls u x (q .1)) e

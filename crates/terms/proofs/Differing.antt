@@ -4,30 +4,31 @@ use mathlib.Core.Path.{_≡_, refl, ap, _∙_}
 use mathlib.Core.Logic.{_↔_}
 use mathlib.Core.List.{List, [], _∷_, _++_}
 use mathlib.Core.Bool.{Bool, true, false, _&&_}
+use mathlib.Core.Option.{Option, some, none}
 use native.Mathlib.Omega.{arith}
 use borrow.Author.Tests.{eqb-true, eq-eqb}
 use lib.Dec.{eqb}
 use lib.IntN.{ℤ, pos, negsuc, negℤ}
-use Rattle.faults.specs.Answer.{pick}
+use Rattle.basics.specs.Bools.{pick}
 use Rattle.aspif.specs.Statements.{Line}
 use Rattle.diffs.specs.Diff.{Diff}
-use Rattle.terms.specs.Says.{Term, num, str, comp, Element, elem, unguarded, guard, states, Found, found, nothing, term, elementAt, diffWord, minus, atMost, Bound, plain, negated, Difference}
+use Rattle.terms.specs.Says.{Term, num, str, comp, Element, elem, unguarded, guard, states, term, elementAt, diffWord, minus, atMost, Bound, plain, negated, Difference}
 use Rattle.terms.specs.Terms.{sameBytes, isString, isMinus, opposite, boundOf, Pair, pairOf, pairIn, joined, differenceOf, known, notDifference}
 use Rattle.terms.proofs.Known.{term-append, element-append}
 
 -- ---- what a test or a search that succeeds says
 
-pub never : {A : Type 0} {a : A} → nothing ≡ found a → ⊥
+pub never : {A : Type 0} {a : A} → none ≡ some a → ⊥
 never {A} {a} e = let z : _≡_ {A = ℕ} 0 1 = (cc) in omega arith
 
 not-true : false ≡ true → ⊥
 not-true e = let z : _≡_ {A = ℕ} 0 1 = (cc) in omega arith
 
-record Both (A : Type 0) (b : Bool) (x : Found A) (a : A) : Type 0 where
+record Both (A : Type 0) (b : Bool) (x : Option A) (a : A) : Type 0 where
   test : b ≡ true
-  then : x ≡ found a
+  then : x ≡ some a
 
-picked : {A : Type 0} (b : Bool) (x : Found A) (a : A) → pick b x nothing ≡ found a → Both A b x a
+picked : {A : Type 0} (b : Bool) (x : Option A) (a : A) → pick b x none ≡ some a → Both A b x a
 picked true x a h = record { test = refl; then = h }
 picked false x a h = absurd (never h)
 
@@ -42,94 +43,94 @@ same-is (a ∷ s) (b ∷ l) h = go (same-is s l) (eqb a b) refl h
     go r true q h = rw (eqb-true a b q, r h)
     go r false q h = absurd (not-true h)
 
-string-is : (l : List ℕ) (x : Found Term) → isString l x ≡ true → x ≡ found (str l)
+string-is : (l : List ℕ) (x : Option Term) → isString l x ≡ true → x ≡ some (str l)
 unfolding isString
-string-is l nothing h = absurd (not-true h)
-string-is l (found (num k)) h = absurd (not-true h)
-string-is l (found (str s)) h = rw (same-is s l h)
-string-is l (found (comp t us)) h = absurd (not-true h)
+string-is l none h = absurd (not-true h)
+string-is l (some (num k)) h = absurd (not-true h)
+string-is l (some (str s)) h = rw (same-is s l h)
+string-is l (some (comp t us)) h = absurd (not-true h)
 
-record Minus (look : ℕ → Found Term) (z : ℤ) : Type 0 where
+record Minus (look : ℕ → Option Term) (z : ℤ) : Type 0 where
   t : ℕ
   functor : z ≡ pos t
-  sign : look t ≡ found (str minus)
+  sign : look t ≡ some (str minus)
 
-minus-is : (look : ℕ → Found Term) (z : ℤ) → isMinus look z ≡ true → Minus look z
+minus-is : (look : ℕ → Option Term) (z : ℤ) → isMinus look z ≡ true → Minus look z
 unfolding isMinus
 minus-is look (pos t) h = record { t = t; functor = refl; sign = string-is minus (look t) h }
 minus-is look (negsuc t) h = absurd (not-true h)
 
-record Sides (look : ℕ → Found Term) (x : Found Term) (p : Pair) : Type 0 where
+record Sides (look : ℕ → Option Term) (x : Option Term) (p : Pair) : Type 0 where
   t : ℕ
-  pair : x ≡ found (comp (pos t) (p .x ∷ p .y ∷ []))
-  sign : look t ≡ found (str minus)
+  pair : x ≡ some (comp (pos t) (p .x ∷ p .y ∷ []))
+  sign : look t ≡ some (str minus)
 
-pair-is : (look : ℕ → Found Term) (x : Found Term) (p : Pair) → pairOf look x ≡ found p → Sides look x p
+pair-is : (look : ℕ → Option Term) (x : Option Term) (p : Pair) → pairOf look x ≡ some p → Sides look x p
 unfolding pairOf
-pair-is look nothing p h = absurd (never h)
-pair-is look (found (num k)) p h = absurd (never h)
-pair-is look (found (str s)) p h = absurd (never h)
-pair-is look (found (comp t [])) p h = absurd (never h)
-pair-is look (found (comp t (a ∷ []))) p h = absurd (never h)
-pair-is look (found (comp t (a ∷ b ∷ []))) p h =
-    let q = picked (isMinus look t) (found (record { x = a; y = b })) p h in
+pair-is look none p h = absurd (never h)
+pair-is look (some (num k)) p h = absurd (never h)
+pair-is look (some (str s)) p h = absurd (never h)
+pair-is look (some (comp t [])) p h = absurd (never h)
+pair-is look (some (comp t (a ∷ []))) p h = absurd (never h)
+pair-is look (some (comp t (a ∷ b ∷ []))) p h =
+    let q = picked (isMinus look t) (some (record { x = a; y = b })) p h in
     let m = minus-is look t (q .test) in
     let e : record { x = a; y = b } ≡ p = cc (q .then) in
-    record { t = m .t; pair = ap (λ (z : ℤ). found (comp z (a ∷ b ∷ []))) (m .functor) ∙ ap (λ (s : Pair). found (comp (pos (m .t)) (s .x ∷ s .y ∷ []))) e; sign = m .sign }
-pair-is look (found (comp t (a ∷ b ∷ c ∷ us))) p h = absurd (never h)
+    record { t = m .t; pair = ap (λ (z : ℤ). some (comp z (a ∷ b ∷ []))) (m .functor) ∙ ap (λ (s : Pair). some (comp (pos (m .t)) (s .x ∷ s .y ∷ []))) e; sign = m .sign }
+pair-is look (some (comp t (a ∷ b ∷ c ∷ us))) p h = absurd (never h)
 
-record Inside (look : ℕ → Found Term) (x : Found Element) (p : Pair) : Type 0 where
+record Inside (look : ℕ → Option Term) (x : Option Element) (p : Pair) : Type 0 where
   w : ℕ
-  inside : x ≡ found (elem (w ∷ []) [])
+  inside : x ≡ some (elem (w ∷ []) [])
   sides : Sides look (look w) p
 
-inside-is : (look : ℕ → Found Term) (x : Found Element) (p : Pair) → pairIn look x ≡ found p → Inside look x p
+inside-is : (look : ℕ → Option Term) (x : Option Element) (p : Pair) → pairIn look x ≡ some p → Inside look x p
 unfolding pairIn
-inside-is look nothing p h = absurd (never h)
-inside-is look (found (elem [] ls)) p h = absurd (never h)
-inside-is look (found (elem (w ∷ []) [])) p h = record { w = w; inside = refl; sides = pair-is look (look w) p h }
-inside-is look (found (elem (w ∷ []) (l ∷ ls))) p h = absurd (never h)
-inside-is look (found (elem (w ∷ u ∷ us) ls)) p h = absurd (never h)
+inside-is look none p h = absurd (never h)
+inside-is look (some (elem [] ls)) p h = absurd (never h)
+inside-is look (some (elem (w ∷ []) [])) p h = record { w = w; inside = refl; sides = pair-is look (look w) p h }
+inside-is look (some (elem (w ∷ []) (l ∷ ls))) p h = absurd (never h)
+inside-is look (some (elem (w ∷ u ∷ us) ls)) p h = absurd (never h)
 
-record Opposed (x : Found Term) (k : ℤ) : Type 0 where
+record Opposed (x : Option Term) (k : ℤ) : Type 0 where
   j : ℤ
-  is : x ≡ found (num j)
+  is : x ≡ some (num j)
   opposed : k ≡ negℤ j
 
-opposite-is : (x : Found Term) (k : ℤ) → opposite x ≡ found k → Opposed x k
+opposite-is : (x : Option Term) (k : ℤ) → opposite x ≡ some k → Opposed x k
 unfolding opposite
-opposite-is nothing k h = absurd (never h)
-opposite-is (found (num j)) k h = record { j = j; is = refl; opposed = cc h }
-opposite-is (found (str s)) k h = absurd (never h)
-opposite-is (found (comp t us)) k h = absurd (never h)
+opposite-is none k h = absurd (never h)
+opposite-is (some (num j)) k h = record { j = j; is = refl; opposed = cc h }
+opposite-is (some (str s)) k h = absurd (never h)
+opposite-is (some (comp t us)) k h = absurd (never h)
 
-bound-is : (ls : List Line) (u : ℕ) (x : Found Term) (k : ℤ) → term ls u ≡ x → boundOf (term ls) x ≡ found k → Bound ls u k
+bound-is : (ls : List Line) (u : ℕ) (x : Option Term) (k : ℤ) → term ls u ≡ x → boundOf (term ls) x ≡ some k → Bound ls u k
 unfolding boundOf
-bound-is ls u nothing k e h = absurd (never h)
-bound-is ls u (found (num j)) k e h = let q : j ≡ k = cc h in plain (e ∙ rw q)
-bound-is ls u (found (str s)) k e h = absurd (never h)
-bound-is ls u (found (comp t [])) k e h = absurd (never h)
-bound-is ls u (found (comp t (n ∷ []))) k e h =
+bound-is ls u none k e h = absurd (never h)
+bound-is ls u (some (num j)) k e h = let q : j ≡ k = cc h in plain (e ∙ rw q)
+bound-is ls u (some (str s)) k e h = absurd (never h)
+bound-is ls u (some (comp t [])) k e h = absurd (never h)
+bound-is ls u (some (comp t (n ∷ []))) k e h =
     let q = picked (isMinus (term ls) t) (opposite (term ls n)) k h in
     let m = minus-is (term ls) t (q .test) in
     let o = opposite-is (term ls n) k (q .then) in
     negated (m .t) n (o .j) (rw (← m .functor) e) (m .sign) (o .is) (o .opposed)
-bound-is ls u (found (comp t (n ∷ m ∷ us))) k e h = absurd (never h)
+bound-is ls u (some (comp t (n ∷ m ∷ us))) k e h = absurd (never h)
 
-record Joined (p : Found Pair) (q : Found ℤ) (d : Diff) : Type 0 where
-  pair : p ≡ found (record { x = d .x; y = d .y })
-  bound : q ≡ found (d .k)
+record Joined (p : Option Pair) (q : Option ℤ) (d : Diff) : Type 0 where
+  pair : p ≡ some (record { x = d .x; y = d .y })
+  bound : q ≡ some (d .k)
 
-joined-is : (p : Found Pair) (q : Found ℤ) (d : Diff) → joined p q ≡ found d → Joined p q d
-joined-is (found p) (found k) d h =
+joined-is : (p : Option Pair) (q : Option ℤ) (d : Diff) → joined p q ≡ some d → Joined p q d
+joined-is (some p) (some k) d h =
     let e : record { x = p .x; y = p .y; k = k } ≡ d = cc h in
-    record { pair = ap (λ (s : Diff). found (record { x = s .x; y = s .y })) e; bound = ap (λ (s : Diff). found (s .k)) e }
-joined-is (found p) nothing d h = absurd (never h)
-joined-is nothing q d h = absurd (never h)
+    record { pair = ap (λ (s : Diff). some (record { x = s .x; y = s .y })) e; bound = ap (λ (s : Diff). some (s .k)) e }
+joined-is (some p) none d h = absurd (never h)
+joined-is none q d h = absurd (never h)
 
 -- ---- found is said
 
-pub said : (ls : List Line) (p : ℕ) (vs : List ℕ) (g u : ℕ) (d : Diff) → differenceOf (term ls) (elementAt ls) p vs (guard g u) ≡ found d → Difference ls p vs g u d
+pub said : (ls : List Line) (p : ℕ) (vs : List ℕ) (g u : ℕ) (d : Diff) → differenceOf (term ls) (elementAt ls) p vs (guard g u) ≡ some d → Difference ls p vs g u d
 unfolding differenceOf
 said ls p [] g u d h = absurd (never h)
 said ls p (v ∷ w ∷ vs) g u d h = absurd (never h)
@@ -152,7 +153,7 @@ said ls p (v ∷ []) g u d h =
     }
 
 -- a theory atom without a guard says nothing
-pub unsaid : (look : ℕ → Found Term) (els : ℕ → Found Element) (p : ℕ) (vs : List ℕ) (d : Diff) → differenceOf look els p vs unguarded ≡ found d → ⊥
+pub unsaid : (look : ℕ → Option Term) (els : ℕ → Option Element) (p : ℕ) (vs : List ℕ) (d : Diff) → differenceOf look els p vs unguarded ≡ some d → ⊥
 unfolding differenceOf
 unsaid look els p [] d h = never h
 unsaid look els p (v ∷ []) d h = never h
@@ -161,10 +162,10 @@ unsaid look els p (v ∷ w ∷ vs) d h = never h
 -- ---- more lines change nothing that is said
 
 module _ (ls ms : List Line) where
-  term-more : (u : ℕ) {x : Term} → term ls u ≡ found x → term (ls ++ ms) u ≡ found x
+  term-more : (u : ℕ) {x : Term} → term ls u ≡ some x → term (ls ++ ms) u ≡ some x
   term-more u {x} h = term-append ls ms u ∙ rw h
 
-  element-more : (v : ℕ) {x : Element} → elementAt ls v ≡ found x → elementAt (ls ++ ms) v ≡ found x
+  element-more : (v : ℕ) {x : Element} → elementAt ls v ≡ some x → elementAt (ls ++ ms) v ≡ some x
   element-more v {x} h = element-append ls ms v ∙ rw h
 
   bound-more : {u : ℕ} {k : ℤ} → Bound ls u k → Bound (ls ++ ms) u k
@@ -188,7 +189,7 @@ module _ (ls ms : List Line) where
 
 -- ---- nothing else is said
 
-clash : {x : Found Term} {k : ℤ} {t : ℤ} {us : List ℕ} → x ≡ found (num k) → x ≡ found (comp t us) → ⊥
+clash : {x : Option Term} {k : ℤ} {t : ℤ} {us : List ℕ} → x ≡ some (num k) → x ≡ some (comp t us) → ⊥
 clash {x} {k} {t} {us} a b = let z : _≡_ {A = ℕ} 0 1 = (cc) in omega arith
 
 bound-one : {ls : List Line} {u : ℕ} {j k : ℤ} → Bound ls u j → Bound ls u k → j ≡ k
@@ -225,25 +226,25 @@ unfolding sameBytes
 same-self [] = refl
 same-self (a ∷ l) = rw (eq-eqb a a refl, same-self l)
 
-string-found : (l : List ℕ) (x : Found Term) → x ≡ found (str l) → isString l x ≡ true
+string-found : (l : List ℕ) (x : Option Term) → x ≡ some (str l) → isString l x ≡ true
 unfolding isString
 string-found l x h = rw h (same-self l)
 
-minus-found : (look : ℕ → Found Term) (t : ℕ) → look t ≡ found (str minus) → isMinus look (pos t) ≡ true
+minus-found : (look : ℕ → Option Term) (t : ℕ) → look t ≡ some (str minus) → isMinus look (pos t) ≡ true
 unfolding isMinus
 minus-found look t h = string-found minus (look t) h
 
-bound-found : (ls : List Line) (u : ℕ) (k : ℤ) → Bound ls u k → boundOf (term ls) (term ls u) ≡ found k
+bound-found : (ls : List Line) (u : ℕ) (k : ℤ) → Bound ls u k → boundOf (term ls) (term ls u) ≡ some k
 unfolding boundOf opposite
 bound-found ls u k (plain h) = rw h
 bound-found ls u k (negated t n j a b c e) = rw (a, minus-found (term ls) t b, c, e)
 
-pair-found : (ls : List Line) (v w t x y : ℕ) → elementAt ls v ≡ found (elem (w ∷ []) []) → term ls w ≡ found (comp (pos t) (x ∷ y ∷ [])) → term ls t ≡ found (str minus)
-    → pairIn (term ls) (elementAt ls v) ≡ found (record { x = x; y = y })
+pair-found : (ls : List Line) (v w t x y : ℕ) → elementAt ls v ≡ some (elem (w ∷ []) []) → term ls w ≡ some (comp (pos t) (x ∷ y ∷ [])) → term ls t ≡ some (str minus)
+    → pairIn (term ls) (elementAt ls v) ≡ some (record { x = x; y = y })
 unfolding pairIn pairOf
 pair-found ls v w t x y a b c = rw (a, b, minus-found (term ls) t c)
 
-found-said : (ls : List Line) (p : ℕ) (vs : List ℕ) (g u : ℕ) (d : Diff) → Difference ls p vs g u d → differenceOf (term ls) (elementAt ls) p vs (guard g u) ≡ found d
+found-said : (ls : List Line) (p : ℕ) (vs : List ℕ) (g u : ℕ) (d : Diff) → Difference ls p vs g u d → differenceOf (term ls) (elementAt ls) p vs (guard g u) ≡ some d
 unfolding differenceOf
 found-said ls p vs g u d q =
     rw (
@@ -255,7 +256,7 @@ found-said ls p vs g u d q =
     )
 
 -- the test of refusal 6 finds a difference exactly where one is said, and that one
-pub difference-exactly : (ls : List Line) (p : ℕ) (vs : List ℕ) (g u : ℕ) (d : Diff) → (differenceOf (term ls) (elementAt ls) p vs (guard g u) ≡ found d) ↔ Difference ls p vs g u d
+pub difference-exactly : (ls : List Line) (p : ℕ) (vs : List ℕ) (g u : ℕ) (d : Diff) → (differenceOf (term ls) (elementAt ls) p vs (guard g u) ≡ some d) ↔ Difference ls p vs g u d
 difference-exactly ls p vs g u d = (said ls p vs g u d, found-said ls p vs g u d)
 
 -- so a theory atom that is a difference is not refused as none

@@ -3,20 +3,22 @@ use Prim.Native.Nat.{ℕ}
 use mathlib.Core.Path.{_≡_, refl, sym, _∙_, fun-ext}
 use mathlib.Core.List.{List, [], _∷_, _++_}
 use mathlib.Core.Bool.{Bool, true, false, _||_}
+use mathlib.Core.Option.{Option, some, none}
 use borrow.Author.Tests.{eqb-true}
 use lib.Dec.{eqb}
-use Rattle.faults.specs.Answer.{pick, refused}
-use Rattle.faults.proofs.Bools.{or-assoc, or-none, or-true, or-neither}
+use Rattle.faults.specs.Answer.{refused}
+use Rattle.basics.specs.Bools.{pick}
+use Rattle.basics.proofs.Bools.{or-assoc, or-none, or-true, or-neither}
 use Rattle.aspif.specs.Statements.{Line}
-use Rattle.terms.specs.Says.{Term, Element, Part, defines, collects, states, other, partOf, Found, found, nothing, orElse, termIn, term, elementIn, elementAt}
+use Rattle.terms.specs.Says.{Term, Element, Part, defines, collects, states, other, partOf, orElse, termIn, term, elementIn, elementAt}
 use Rattle.terms.specs.Terms.{known, statesIn, taken, defined, faulty, statedBy, more, differencesFrom, differences}
 use Rattle.terms.specs.Tables.{at, add, walk, termAt, elementOf, lookIn, elementsIn, takenIn, envOf, Blank}
 
 -- ---- more lines
 
-or-else-assoc : {A : Type 0} (a b c : Found A) → orElse (orElse a b) c ≡ orElse a (orElse b c)
-or-else-assoc (found a) b c = refl
-or-else-assoc nothing b c = refl
+or-else-assoc : {A : Type 0} (a b c : Option A) → orElse (orElse a b) c ≡ orElse a (orElse b c)
+or-else-assoc (some a) b c = refl
+or-else-assoc none b c = refl
 
 -- what is defined in the first lines, or else in the others
 pub term-append : (xs ys : List Line) (u : ℕ) → term (xs ++ ys) u ≡ orElse (term xs u) (term ys u)
@@ -36,38 +38,38 @@ taken-append (l ∷ xs) ys a = rw (taken-append xs ys a) (sym (or-assoc (statesI
 
 -- ---- one more line
 
-or-nothing : {A : Type 0} (a : Found A) → orElse a nothing ≡ a
-or-nothing (found a) = refl
-or-nothing nothing = refl
+or-nothing : {A : Type 0} (a : Option A) → orElse a none ≡ a
+or-nothing (some a) = refl
+or-nothing none = refl
 
-undefined : {A : Type 0} (a : Found A) → defined a ≡ false → a ≡ nothing
-undefined (found a) h = let z : _≡_ {A = Bool} true false = h in (cc)
-undefined nothing h = refl
+undefined : {A : Type 0} (a : Option A) → defined a ≡ false → a ≡ none
+undefined (some a) h = let z : _≡_ {A = Bool} true false = h in (cc)
+undefined none h = refl
 
 module _ (before : List Line) (l : Line) where
-  terms-kept : ((u : ℕ) → term (l ∷ []) u ≡ nothing) → term (before ++ (l ∷ [])) ≡ term before
+  terms-kept : ((u : ℕ) → term (l ∷ []) u ≡ none) → term (before ++ (l ∷ [])) ≡ term before
   terms-kept h = fun-ext (λ u. term-append before (l ∷ []) u ∙ rw (h u) (or-nothing (term before u)))
 
-  elements-kept : ((v : ℕ) → elementAt (l ∷ []) v ≡ nothing) → elementAt (before ++ (l ∷ [])) ≡ elementAt before
+  elements-kept : ((v : ℕ) → elementAt (l ∷ []) v ≡ none) → elementAt (before ++ (l ∷ [])) ≡ elementAt before
   elements-kept h = fun-ext (λ v. element-append before (l ∷ []) v ∙ rw (h v) (or-nothing (elementAt before v)))
 
   taken-kept : ((a : ℕ) → taken (l ∷ []) a ≡ false) → taken (before ++ (l ∷ [])) ≡ taken before
   taken-kept h = fun-ext (λ a. taken-append before (l ∷ []) a ∙ rw (h a) (or-none (taken before a)))
 
   -- a line that defines a term
-  terms-more : (u : ℕ) (x : Term) → ((v : ℕ) → term (l ∷ []) v ≡ pick (eqb v u) (found x) nothing) → term before u ≡ nothing
-      → term (before ++ (l ∷ [])) ≡ at (term before) u (found x)
+  terms-more : (u : ℕ) (x : Term) → ((v : ℕ) → term (l ∷ []) v ≡ pick (eqb v u) (some x) none) → term before u ≡ none
+      → term (before ++ (l ∷ [])) ≡ at (term before) u (some x)
   terms-more u x h n = fun-ext (λ v. term-append before (l ∷ []) v ∙ rw (h v) (go v (eqb v u) refl))
     where
-      go : (v : ℕ) (b : Bool) → eqb v u ≡ b → orElse (term before v) (pick b (found x) nothing) ≡ pick b (found x) (term before v)
+      go : (v : ℕ) (b : Bool) → eqb v u ≡ b → orElse (term before v) (pick b (some x) none) ≡ pick b (some x) (term before v)
       go v true q = rw (eqb-true v u q, n)
       go v false q = or-nothing (term before v)
 
-  elements-more : (u : ℕ) (x : Element) → ((v : ℕ) → elementAt (l ∷ []) v ≡ pick (eqb v u) (found x) nothing) → elementAt before u ≡ nothing
-      → elementAt (before ++ (l ∷ [])) ≡ at (elementAt before) u (found x)
+  elements-more : (u : ℕ) (x : Element) → ((v : ℕ) → elementAt (l ∷ []) v ≡ pick (eqb v u) (some x) none) → elementAt before u ≡ none
+      → elementAt (before ++ (l ∷ [])) ≡ at (elementAt before) u (some x)
   elements-more u x h n = fun-ext (λ v. element-append before (l ∷ []) v ∙ rw (h v) (go v (eqb v u) refl))
     where
-      go : (v : ℕ) (b : Bool) → eqb v u ≡ b → orElse (elementAt before v) (pick b (found x) nothing) ≡ pick b (found x) (elementAt before v)
+      go : (v : ℕ) (b : Bool) → eqb v u ≡ b → orElse (elementAt before v) (pick b (some x) none) ≡ pick b (some x) (elementAt before v)
       go v true q = rw (eqb-true v u q, n)
       go v false q = or-nothing (elementAt before v)
 

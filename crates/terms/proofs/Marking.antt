@@ -9,11 +9,11 @@ use borrow.Author.Tests.{ne-eqb, eqb-true, eqb-false}
 use lib.ListN.{length, getD, set, take, replicate, length-set, length-replicate, List·getD-eq-default}
 use lib.Seq.{take-suc, getD-set-same, getD-set-other}
 use lib.Dec.{eqb}
-use Rattle.faults.specs.Answer.{pick}
+use Rattle.basics.specs.Bools.{pick}
+use Rattle.basics.specs.Lists.{among}
+use Rattle.basics.proofs.Bools.{or-none}
+use Rattle.basics.proofs.Bitmaps.{among-append}
 use Rattle.aspif.specs.Statements.{choice, Statement}
-use Rattle.faults.specs.Marks.{among}
-use Rattle.faults.proofs.Bools.{or-none}
-use Rattle.faults.proofs.Marks.{among-append}
 use Rattle.aspif.specs.Grammar.{headOf, plainHead}
 use Rattle.aspif.specs.Words.{word, behind, saysAt, after, linesFrom, linesOf, Taped}
 use Rattle.terms.specs.Says.{inHead, heads, headed}

@@ -11,13 +11,15 @@ use lib.ListN.{length, getD, take, List·getD-eq-default}
 use lib.Seq.{take-suc}
 use lib.Dec.{eqb, ltb}
 use lib.IntN.{ℤ}
-use Rattle.faults.specs.Answer.{got, pick}
+use Rattle.faults.specs.Answer.{got}
 use Rattle.aspif.specs.Statements.{Line, Statement, rule, output, numeric, string, compound, element, theory, guarded, comment}
-use Rattle.faults.specs.Marks.{among, marks, isMarked}
-use Rattle.faults.proofs.Bools.{or-cases, or-true}
+use Rattle.basics.specs.Bools.{pick}
+use Rattle.basics.specs.Lists.{among, All, Ascending}
+use Rattle.basics.specs.inner.Bitmaps.{marks, isMarked}
+use Rattle.basics.proofs.Bools.{or-cases, or-true}
 use Rattle.aspif.specs.Words.{word, Small, AllSmall}
-use Rattle.diffs.specs.Diff.{Diff, All}
-use Rattle.terms.specs.Says.{Name, Ascending, Names, headed, partOf}
+use Rattle.diffs.specs.Diff.{Diff}
+use Rattle.terms.specs.Says.{Name, Names, headed, partOf}
 use Rattle.terms.specs.Terms.{Stated, differences, Lists, statesIn, taken, external}
 use Rattle.terms.specs.Tables.{heldAt, firsts}
 use Rattle.terms.specs.Marks.{marked, Marks, atomsIn, xsIn, ysIn, naming}

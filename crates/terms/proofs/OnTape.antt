@@ -3,13 +3,14 @@ use Prim.Native.Nat.{ℕ, zero, suc, _+_, _-_}
 use mathlib.Core.Path.{_≡_, refl}
 use mathlib.Core.List.{List}
 use mathlib.Core.Bool.{not}
+use mathlib.Core.Option.{some}
 use native.Mathlib.Omega.{arith}
 use borrow.Author.Tests.{ne-eqb}
 use lib.Dec.{eqb}
 use Rattle.aspif.specs.Grammar.{integerOf}
 use Rattle.aspif.specs.Words.{word}
 use Rattle.aspif.proofs.Walking.{first-word}
-use Rattle.terms.specs.Says.{num, str, comp, found}
+use Rattle.terms.specs.Says.{num, str, comp}
 use Rattle.terms.specs.Terms.{defined}
 use Rattle.terms.specs.Tables.{wordsAt, termOn, elementOn, termAt, elementOf}
 
@@ -30,12 +31,12 @@ module _ (t : List ℕ) (p k : ℕ) (ek : k ≡ word t (p + 0)) where
 
 -- ---- an entry that is there, and whether it is
 
-pub entry-is : (t : List ℕ) (e : ℕ) → (e ≡ 0 → ⊥) → termAt t e ≡ found (termOn t (e - 1))
+pub entry-is : (t : List ℕ) (e : ℕ) → (e ≡ 0 → ⊥) → termAt t e ≡ some (termOn t (e - 1))
 unfolding termAt
 entry-is t zero z = absurd (z refl)
 entry-is t (suc p) z = let d : suc p - 1 ≡ p = omega arith in rw d
 
-pub element-is : (t : List ℕ) (e : ℕ) → (e ≡ 0 → ⊥) → elementOf t e ≡ found (elementOn t (e - 1))
+pub element-is : (t : List ℕ) (e : ℕ) → (e ≡ 0 → ⊥) → elementOf t e ≡ some (elementOn t (e - 1))
 unfolding elementOf
 element-is t zero z = absurd (z refl)
 element-is t (suc p) z = let d : suc p - 1 ≡ p = omega arith in rw d

@@ -9,7 +9,7 @@ use borrow.Author.Tests.{eqb-true, eqb-false, ne-eqb}
 use lib.ListN.{length, take, drop}
 use lib.Seq.{drop-cons}
 use lib.Dec.{eqb}
-use Rattle.faults.specs.Answer.{pick}
+use Rattle.basics.specs.Bools.{pick}
 use Rattle.aspif.specs.Statements.{Literal, Head, Statement, rule, output, numeric, string, compound, element, theory, guarded, comment, Line}
 use Rattle.aspif.specs.Words.{word, wordsFrom, behind, saysAt, lineAt, after, Small}
 use Rattle.terms.specs.Says.{Part, defines, collects, states, other, partOf}

@@ -9,7 +9,7 @@ use lib.IntN.{ℤ, pos, negℤ, _-ℤ_, +ℤ-idl, negℤ-negℤ}
 use mir.Syntax.{w32}
 use mir.Val.{SFits, toZ, ofZ}
 use mir.Facts.{toZ-ofZ}
-use Rattle.faults.specs.Answer.{pick}
+use Rattle.basics.specs.Bools.{pick}
 use Rattle.aspif.specs.Grammar.{integerOf}
 use Rattle.terms.specs.Tables.{isTerm}
 

@@ -4,15 +4,17 @@ use mathlib.Core.Path.{_≡_, refl, sym, ap, _∙_}
 use mathlib.Core.Logic.{_⊎_, inl, inr, ⊎-elim}
 use mathlib.Core.List.{List, [], _∷_, _++_, append-assoc, map}
 use mathlib.Core.Bool.{Bool, true, false, _||_, not}
+use mathlib.Core.Option.{Option, some, none}
 use native.Mathlib.Omega.{arith}
 use borrow.Author.Tests.{eqb-false}
 use lib.Dec.{eqb}
-use Rattle.faults.specs.Answer.{Answer, got, refused, pick}
+use Rattle.faults.specs.Answer.{Answer, got, refused}
 use Rattle.aspif.specs.Statements.{Line}
-use Rattle.diffs.specs.Diff.{Diff, All, NotIn, Distinct}
-use Rattle.terms.specs.Says.{Guard, unguarded, guard, Part, defines, collects, states, other, partOf, Found, found, nothing, term, elementAt, Difference, SaysIn, Some, Says}
-use Rattle.faults.specs.Marks.{among}
-use Rattle.faults.proofs.Bools.{or-neither}
+use Rattle.diffs.specs.Diff.{Diff}
+use Rattle.terms.specs.Says.{Guard, unguarded, guard, Part, defines, collects, states, other, partOf, term, elementAt, Difference, SaysIn, Says}
+use Rattle.basics.specs.Bools.{pick}
+use Rattle.basics.specs.Lists.{All, NotIn, Distinct, Some, among}
+use Rattle.basics.proofs.Bools.{or-neither}
 use Rattle.diffs.proofs.Names.{all-map}
 use Rattle.terms.specs.Terms.{statesIn, known, taken, defined, differenceOf, undefinedUse, notDifference, faulty, Stated, statedBy, more, differencesFrom, differences, Lists}
 use Rattle.terms.proofs.Known.{taken-append}
@@ -32,13 +34,13 @@ third-false true b c d h = let z : _≡_ {A = Bool} true false = h in (cc)
 third-false false true c d h = let z : _≡_ {A = Bool} true false = h in (cc)
 third-false false false true d h = h
 
-record Is {A : Type 0} (x : Found A) : Type 0 where
+record Is {A : Type 0} (x : Option A) : Type 0 where
   value : A
-  is : x ≡ found value
+  is : x ≡ some value
 
-there : {A : Type 0} (x : Found A) → not (defined x) ≡ false → Is x
-there (found a) h = record { value = a; is = refl }
-there nothing h = let z : _≡_ {A = Bool} true false = h in absurd (not-so z)
+there : {A : Type 0} (x : Option A) → not (defined x) ≡ false → Is x
+there (some a) h = record { value = a; is = refl }
+there none h = let z : _≡_ {A = Bool} true false = h in absurd (not-so z)
   where
     not-so : true ≡ false → ⊥
     not-so z = let y : _≡_ {A = ℕ} 0 1 = (cc) in omega arith
@@ -46,7 +48,7 @@ there nothing h = let z : _≡_ {A = Bool} true false = h in absurd (not-so z)
 -- a theory atom that is not faulty states a difference, and its atom was not taken
 record Fine (before : List Line) (a p : ℕ) (vs : List ℕ) (g : Guard) : Type 0 where
   diff : Diff
-  is : differenceOf (term before) (elementAt before) p vs g ≡ found diff
+  is : differenceOf (term before) (elementAt before) p vs g ≡ some diff
   fresh : taken before a ≡ false
 
 fine : (before : List Line) (a p : ℕ) (vs : List ℕ) (g : Guard) → faulty (known before) (states a p vs g) ≡ false → Fine before a p vs g
@@ -64,10 +66,10 @@ record Turn (before : List Line) (l : Line) (ls : List Line) (ds : List Stated) 
   behind : differencesFrom (before ++ (l ∷ [])) ls ≡ got rest
   whole : more (statedBy (known before) (partOf (l .says))) (got rest) ≡ got ds
 
-got-more : (x : Found Stated) (r : Answer (List Stated)) (ds : List Stated) → more x r ≡ got ds → (es : List Stated) × (r ≡ got es)
-got-more nothing r ds h = (ds, h)
-got-more (found d) (got es) ds h = (es, refl)
-got-more (found d) (refused k p) ds h = let z : _≡_ {A = ℕ} 0 1 = (cc) in absurd (omega arith)
+got-more : (x : Option Stated) (r : Answer (List Stated)) (ds : List Stated) → more x r ≡ got ds → (es : List Stated) × (r ≡ got es)
+got-more none r ds h = (ds, h)
+got-more (some d) (got es) ds h = (es, refl)
+got-more (some d) (refused k p) ds h = let z : _≡_ {A = ℕ} 0 1 = (cc) in absurd (omega arith)
 
 turn : (before : List Line) (l : Line) (ls : List Line) (ds : List Stated) → differencesFrom before (l ∷ ls) ≡ got ds → Turn before l ls ds
 unfolding differencesFrom
@@ -86,12 +88,12 @@ turn before l ls ds = go (faulty (known before) (partOf (l .says))) refl
 got-is : {xs ys : List Stated} → got xs ≡ got ys → xs ≡ ys
 got-is {xs} {ys} h = cc h
 
-more-is : (x : Stated) (rest ds : List Stated) → more (found x) (got rest) ≡ got ds → x ∷ rest ≡ ds
+more-is : (x : Stated) (rest ds : List Stated) → more (some x) (got rest) ≡ got ds → x ∷ rest ≡ ds
 more-is x rest ds h = got-is h
 
-later : (x : Found Stated) (rest ds : List Stated) (a : ℕ) (d : Diff) → more x (got rest) ≡ got ds → Lists rest a d → Lists ds a d
-later nothing rest ds a d h q = rw (← got-is h) q
-later (found x) rest ds a d h q = rw (← more-is x rest ds h) (inr q)
+later : (x : Option Stated) (rest ds : List Stated) (a : ℕ) (d : Diff) → more x (got rest) ≡ got ds → Lists rest a d → Lists ds a d
+later none rest ds a d h q = rw (← got-is h) q
+later (some x) rest ds a d h q = rw (← more-is x rest ds h) (inr q)
 
 stated-eq : (a b : ℕ) (d e : Diff) → b ≡ a → d ≡ e → _≡_ {A = Stated} (record { atom = b; says = e }) (record { atom = a; says = d })
 stated-eq a b d e p q = rw (p, q)

@@ -3,6 +3,7 @@ use Prim.Native.Nat.{ℕ, zero, suc, _+_, _-_, _/_, _≤_, _<_}
 use mathlib.Core.Path.{_≡_, refl, sym, _∙_}
 use mathlib.Core.List.{List, [], _∷_}
 use mathlib.Core.Bool.{Bool, true, false, _&&_}
+use mathlib.Core.Option.{Option, some}
 use native.Mathlib.Omega.{arith}
 use native.Mathlib.Numerals.{add-one}
 use borrow.Author.Tests.{eq-eqb, ne-eqb, eqb-true, eqb-false}
@@ -12,7 +13,7 @@ use lib.Dec.{eqb}
 use lib.IntN.{ℤ, pos, negsuc}
 use Rattle.aspif.specs.Grammar.{integerOf}
 use Rattle.aspif.specs.Words.{word}
-use Rattle.terms.specs.Says.{Term, Found, found, minus}
+use Rattle.terms.specs.Says.{Term, minus}
 use Rattle.terms.specs.Terms.{sameBytes, isString, isMinus}
 use Rattle.terms.specs.Tables.{wordsAt, isTerm, termOn, termAt, lookIn}
 use Rattle.terms.proofs.Signs.{term-half}
@@ -69,7 +70,7 @@ module _ (l t : List ℕ) (e : ℕ) where
     unfolding isString
     string-not o = rw (entry-is t e nz) (go (eqb k 90) refl)
       where
-        go : (b : Bool) → eqb k 90 ≡ b → false ≡ isString l (found (termOn t (e - 1)))
+        go : (b : Bool) → eqb k 90 ≡ b → false ≡ isString l (some (termOn t (e - 1)))
         go true q = rw (term-number t (e - 1) k ek (eqb-true k 90 q))
         go false q = rw (term-compound t (e - 1) k ek (eqb-false k 90 q) o)
 
@@ -84,12 +85,12 @@ named-is l t terms u e q = rw q
 
 -- ---- whether a compound's t is `-`
 
-no-minus : (look : ℕ → Found Term) (z : ℤ) → isTerm z ≡ false → false ≡ isMinus look z
+no-minus : (look : ℕ → Option Term) (z : ℤ) → isTerm z ≡ false → false ≡ isMinus look z
 unfolding isMinus
 no-minus look (pos n) h = let z : _≡_ {A = Bool} true false = h in (cc)
 no-minus look (negsuc n) h = refl
 
-module _ (look : ℕ → Found Term) (f : ℕ) (b : Bool) (eb : b ≡ isTerm (integerOf f)) where
+module _ (look : ℕ → Option Term) (f : ℕ) (b : Bool) (eb : b ≡ isTerm (integerOf f)) where
   pub minus-other : b ≡ false → false ≡ isMinus look (integerOf f)
   minus-other h = no-minus look (integerOf f) (sym eb ∙ h)
 

@@ -3,6 +3,7 @@ use Prim.Native.Nat.{ℕ, zero, suc, _+_, _≤_, _<_}
 use mathlib.Core.Path.{_≡_, refl, sym, _∙_, fun-ext}
 use mathlib.Core.List.{List, [], _∷_, append-assoc}
 use mathlib.Core.Bool.{Bool, true, false, _&&_}
+use mathlib.Core.Option.{Option, some, none}
 use native.Mathlib.Omega.{arith}
 use native.Mathlib.Numerals.{add-one}
 use borrow.Author.Tests.{eq-eqb, ne-eqb, eqb-true, eqb-false}
@@ -10,15 +11,16 @@ use lib.ListN.{length, getD, set, length-set}
 use lib.Seq.{getD-set-same, getD-set-other}
 use lib.Dec.{eqb}
 use lib.IntN.{ℤ, pos}
-use Rattle.faults.specs.Answer.{Answer, got, refused, bind, pick}
+use Rattle.faults.specs.Answer.{Answer, got, refused, bind}
 use Rattle.faults.specs.Values.{asStep}
 use Rattle.faults.specs.declared.Step.{Step}
 use Rattle.faults.specs.declared.Step.the-variants.{Good, Refused}
-use Rattle.faults.proofs.Bools.{or-true}
+use Rattle.basics.specs.Bools.{pick}
+use Rattle.basics.proofs.Bools.{or-true}
 use Rattle.aspif.specs.Statements.{Line}
 use Rattle.aspif.specs.Words.{word}
 use Rattle.diffs.specs.Diff.{Diff}
-use Rattle.terms.specs.Says.{Term, Element, Guard, unguarded, guard, Part, defines, collects, states, Found, found, nothing, diffWord, atMost}
+use Rattle.terms.specs.Says.{Term, Element, Guard, unguarded, guard, Part, defines, collects, states, diffWord, atMost}
 use Rattle.terms.specs.Terms.{Env, defined, allDefined, isString, boundOf, Pair, pairIn, joined, differenceOf, guardUses, Stated, faulty, more}
 use Rattle.terms.specs.Tables.{wordsAt, termOn, elementOn, guardOn, termAt, elementOf, lookIn, elementsIn, takenIn, envOf, statedOn, Blank, at, add, walk, turn, heldAt, firsts, gather, marks, Room, countedIf}
 
@@ -44,27 +46,27 @@ enter l u m v h = go (eqb v u) refl
     go true q = rw (eqb-true v u q) (getD-set-same l u m 0 h)
     go false q = getD-set-other l u v m 0 (eqb-false v u q)
 
-term-mark : (t : List ℕ) (p : ℕ) → termAt t (p + 1) ≡ found (termOn t p)
+term-mark : (t : List ℕ) (p : ℕ) → termAt t (p + 1) ≡ some (termOn t p)
 unfolding termAt
 term-mark t p = rw add-one
 
-element-mark : (t : List ℕ) (p : ℕ) → elementOf t (p + 1) ≡ found (elementOn t p)
+element-mark : (t : List ℕ) (p : ℕ) → elementOf t (p + 1) ≡ some (elementOn t p)
 unfolding elementOf
 element-mark t p = rw add-one
 
-terms-entered : (t terms : List ℕ) (u p : ℕ) → u < length terms → lookIn t (set terms u (p + 1)) ≡ at (lookIn t terms) u (found (termOn t p))
+terms-entered : (t terms : List ℕ) (u p : ℕ) → u < length terms → lookIn t (set terms u (p + 1)) ≡ at (lookIn t terms) u (some (termOn t p))
 unfolding lookIn
 terms-entered t terms u p h = fun-ext (λ v. go v (eqb v u) (enter terms u (p + 1) v h))
   where
-    go : (v : ℕ) (b : Bool) → word (set terms u (p + 1)) v ≡ pick b (p + 1) (word terms v) → lookIn t (set terms u (p + 1)) v ≡ pick b (found (termOn t p)) (lookIn t terms v)
+    go : (v : ℕ) (b : Bool) → word (set terms u (p + 1)) v ≡ pick b (p + 1) (word terms v) → lookIn t (set terms u (p + 1)) v ≡ pick b (some (termOn t p)) (lookIn t terms v)
     go v true e = rw e (term-mark t p)
     go v false e = rw e
 
-elements-entered : (t els : List ℕ) (u p : ℕ) → u < length els → elementsIn t (set els u (p + 1)) ≡ at (elementsIn t els) u (found (elementOn t p))
+elements-entered : (t els : List ℕ) (u p : ℕ) → u < length els → elementsIn t (set els u (p + 1)) ≡ at (elementsIn t els) u (some (elementOn t p))
 unfolding elementsIn
 elements-entered t els u p h = fun-ext (λ v. go v (eqb v u) (enter els u (p + 1) v h))
   where
-    go : (v : ℕ) (b : Bool) → word (set els u (p + 1)) v ≡ pick b (p + 1) (word els v) → elementsIn t (set els u (p + 1)) v ≡ pick b (found (elementOn t p)) (elementsIn t els v)
+    go : (v : ℕ) (b : Bool) → word (set els u (p + 1)) v ≡ pick b (p + 1) (word els v) → elementsIn t (set els u (p + 1)) v ≡ pick b (some (elementOn t p)) (elementsIn t els v)
     go v true e = rw e (element-mark t p)
     go v false e = rw e
 
@@ -101,39 +103,39 @@ module _ (n : ℕ) (f : ℕ → Stated) (ls : List Line) (t terms els seen : Lis
 
 -- ---- a difference uses nothing that is unknown
 
-string-defined : (l : List ℕ) (x : Found Term) → isString l x ≡ true → defined x ≡ true
+string-defined : (l : List ℕ) (x : Option Term) → isString l x ≡ true → defined x ≡ true
 unfolding isString
-string-defined l nothing h = h
-string-defined l (found x) h = refl
+string-defined l none h = h
+string-defined l (some x) h = refl
 
-pair-there : (look : ℕ → Found Term) (e : Found Element) → defined (pairIn look e) ≡ true → defined e ≡ true
+pair-there : (look : ℕ → Option Term) (e : Option Element) → defined (pairIn look e) ≡ true → defined e ≡ true
 unfolding pairIn
-pair-there look nothing h = h
-pair-there look (found e) h = refl
+pair-there look none h = h
+pair-there look (some e) h = refl
 
-bound-defined : (look : ℕ → Found Term) (x : Found Term) → defined (boundOf look x) ≡ true → defined x ≡ true
+bound-defined : (look : ℕ → Option Term) (x : Option Term) → defined (boundOf look x) ≡ true → defined x ≡ true
 unfolding boundOf
-bound-defined look nothing h = h
-bound-defined look (found x) h = refl
+bound-defined look none h = h
+bound-defined look (some x) h = refl
 
-record Parts (b c : Bool) (p : Found Pair) (q : Found ℤ) : Type 0 where
+record Parts (b c : Bool) (p : Option Pair) (q : Option ℤ) : Type 0 where
   name-is : b ≡ true
   guard-is : c ≡ true
   pair-is : defined p ≡ true
   bound-is : defined q ≡ true
 
-never : (d : Diff) → nothing ≡ found d → ⊥
+never : (d : Diff) → none ≡ some d → ⊥
 never d e = let z : _≡_ {A = ℕ} 0 1 = (cc) in omega arith
 
-parts : (d : Diff) (b c : Bool) (p : Found Pair) (q : Found ℤ) → pick b (pick c (joined p q) nothing) nothing ≡ found d → Parts b c p q
-parts d true true (found p) (found k) h = record { name-is = refl; guard-is = refl; pair-is = refl; bound-is = refl }
-parts d true true (found p) nothing h = absurd (never d h)
-parts d true true nothing q h = absurd (never d h)
+parts : (d : Diff) (b c : Bool) (p : Option Pair) (q : Option ℤ) → pick b (pick c (joined p q) none) none ≡ some d → Parts b c p q
+parts d true true (some p) (some k) h = record { name-is = refl; guard-is = refl; pair-is = refl; bound-is = refl }
+parts d true true (some p) none h = absurd (never d h)
+parts d true true none q h = absurd (never d h)
 parts d true false p q h = absurd (never d h)
 parts d false c p q h = absurd (never d h)
 
-pub all-known : (look : ℕ → Found Term) (els : ℕ → Found Element) (p : ℕ) (vs : List ℕ) (g : Guard) (d : Diff)
-    → differenceOf look els p vs g ≡ found d → defined (look p) && (allDefined els vs && guardUses look g) ≡ true
+pub all-known : (look : ℕ → Option Term) (els : ℕ → Option Element) (p : ℕ) (vs : List ℕ) (g : Guard) (d : Diff)
+    → differenceOf look els p vs g ≡ some d → defined (look p) && (allDefined els vs && guardUses look g) ≡ true
 unfolding differenceOf allDefined
 all-known look els p [] g d h = absurd (never d h)
 all-known look els p (v ∷ w ∷ vs) g d h = absurd (never d h)
@@ -153,20 +155,20 @@ module _ (t terms els seen : List ℕ) (p : ℕ) where
   unfolding faulty envOf takenIn
   atom-second a e ea ee z = rw (← ea, ← ee, ne-eqb e 0 z) (simp or-true)
 
-  pub atom-none : nothing ≡ statedOn t terms els p → true ≡ faulty (envOf t terms els seen) atomOn
+  pub atom-none : none ≡ statedOn t terms els p → true ≡ faulty (envOf t terms els seen) atomOn
   unfolding faulty envOf statedOn
   atom-none z = rw (← z) (simp or-true)
 
-  pub atom-fine : (a e : ℕ) (d : Diff) → a ≡ word t (p + 2) → e ≡ word seen a → e ≡ 0 → found d ≡ statedOn t terms els p → false ≡ faulty (envOf t terms els seen) atomOn
+  pub atom-fine : (a e : ℕ) (d : Diff) → a ≡ word t (p + 2) → e ≡ word seen a → e ≡ 0 → some d ≡ statedOn t terms els p → false ≡ faulty (envOf t terms els seen) atomOn
   unfolding faulty envOf takenIn statedOn
   atom-fine a e d ea ee z fd =
       let w : word seen (word t (p + 2)) ≡ 0 = rw (← ea) (sym ee ∙ z) in
       let kn = all-known (lookIn t terms) (elementsIn t els) (word t (p + 3)) (wordsAt t (p + 5) (word t (p + 4))) (guardOn t p) d (sym fd) in
       rw (kn, w, ← fd)
 
-  pub atom-goes : (n : ℕ) (f : ℕ → Stated) (ls : List Line) (a : ℕ) (d : Diff) (seen′ : List ℕ) → a ≡ word t (p + 2) → found d ≡ statedOn t terms els p
+  pub atom-goes : (n : ℕ) (f : ℕ → Stated) (ls : List Line) (a : ℕ) (d : Diff) (seen′ : List ℕ) → a ≡ word t (p + 2) → some d ≡ statedOn t terms els p
       → false ≡ faulty (envOf t terms els seen) atomOn → a < length seen → seen′ ≡ set seen a (p + 1)
-      → gather n f (more (found (record { atom = a; says = d })) (walk (envOf t terms els seen′) ls)) ≡ gather n f (turn (envOf t terms els seen) (word t (p + 1)) atomOn ls)
+      → gather n f (more (some (record { atom = a; says = d })) (walk (envOf t terms els seen′) ls)) ≡ gather n f (turn (envOf t terms els seen) (word t (p + 1)) atomOn ls)
   unfolding turn add envOf statedOn
   atom-goes n f ls a d seen′ ea fd b l e = rw (← b, ← fd, e, seen-entered seen a p l, ea)
 
@@ -183,7 +185,7 @@ firsts-same zero f g h = refl
 firsts-same (suc n) f g h = rw (firsts-same n f g (λ i l. h i (omega arith)), h n (omega arith))
 
 gather-more : (n : ℕ) (f g : ℕ → Stated) (d : Stated) → ((i : ℕ) → i < n → g i ≡ f i) → g n ≡ d
-    → (r : Answer (List Stated)) → gather (n + 1) g r ≡ gather n f (more (found d) r)
+    → (r : Answer (List Stated)) → gather (n + 1) g r ≡ gather n f (more (some d) r)
 unfolding gather firsts
 gather-more n f g d h e (got ds) = rw (add-one n, e, firsts-same n g f h, append-assoc)
 gather-more n f g d h e (refused k p) = refl
@@ -202,7 +204,7 @@ module _ (atoms xs ys : List ℕ) (ks : List ℤ) (n a x y : ℕ) (k : ℤ)
 
   pub gather-stored : (r : Answer (List Stated))
       → gather (n + 1) (heldAt (set atoms n a) (set xs n x) (set ys n y) (set ks n k)) r
-      ≡ gather n (heldAt atoms xs ys ks) (more (found (record { atom = a; says = record { x = x; y = y; k = k } })) r)
+      ≡ gather n (heldAt atoms xs ys ks) (more (some (record { atom = a; says = record { x = x; y = y; k = k } })) r)
   gather-stored r = gather-more n (heldAt atoms xs ys ks) (heldAt (set atoms n a) (set xs n x) (set ys n y) (set ks n k)) _ before-n at-n r
 
 -- ---- how many atoms are entered: each difference enters one, so there are at most as many as there are atoms
@@ -247,13 +249,13 @@ room-left terms els seen atoms xs ys ks n t2 a e r l ea ee z = omega (arith, r .
 -- a difference stored and its atom entered
 pub atom-stored : (ls : List Line) (t terms els seen : List ℕ) (p : ℕ) (atoms xs ys : List ℕ) (ks : List ℤ) (n a e x y : ℕ) (k k′ : ℤ) (seen′ : List ℕ)
     → Room terms els seen atoms xs ys ks n → word t (p + 2) < 4097
-    → a ≡ word t (p + 2) → e ≡ word seen a → e ≡ 0 → found (record { x = x; y = y; k = k }) ≡ statedOn t terms els p
+    → a ≡ word t (p + 2) → e ≡ word seen a → e ≡ 0 → some (record { x = x; y = y; k = k }) ≡ statedOn t terms els p
     → seen′ ≡ set seen a (p + 1) → k′ ≡ k
     → gather (n + 1) (heldAt (set atoms n a) (set xs n x) (set ys n y) (set ks n k′)) (walk (envOf t terms els seen′) ls)
     ≡ gather n (heldAt atoms xs ys ks) (turn (envOf t terms els seen) (word t (p + 1)) (states (word t (p + 2)) (word t (p + 3)) (wordsAt t (p + 5) (word t (p + 4))) (guardOn t p)) ls)
 atom-stored ls t terms els seen p atoms xs ys ks n a e x y k k′ seen′ r small ea ee z fd q ck =
     let w : n < 4097 = room-left terms els seen atoms xs ys ks n _ a e r small ea ee z in
     let l : a < length seen = omega (arith, r .for-seen) in
-    let g : found (record { x = x; y = y; k = k′ }) ≡ statedOn t terms els p = rw ck fd in
+    let g : some (record { x = x; y = y; k = k′ }) ≡ statedOn t terms els p = rw ck fd in
     gather-stored atoms xs ys ks n a x y k′ (omega (arith, r .for-atoms)) (omega (arith, r .for-xs)) (omega (arith, r .for-ys)) (omega (arith, r .for-ks)) (walk (envOf t terms els seen′) ls)
     ∙ atom-goes t terms els seen p n (heldAt atoms xs ys ks) ls a (record { x = x; y = y; k = k′ }) seen′ ea g (atom-fine t terms els seen p a e (record { x = x; y = y; k = k′ }) ea ee z g) l q

@@ -3,13 +3,14 @@ use Prim.Native.Nat.{ℕ, zero, suc, _+_, _-_, _/_, _≤_, _<_}
 use mathlib.Core.Path.{_≡_, refl, sym, _∙_}
 use mathlib.Core.List.{List}
 use mathlib.Core.Bool.{Bool, true, false, _&&_, _||_, not}
+use mathlib.Core.Option.{Option}
 use native.Mathlib.Omega.{arith}
 use borrow.Author.Tests.{eq-eqb, ne-eqb}
 use lib.Dec.{eqb}
 use lib.IntN.{ℤ, pos, negsuc}
 use Rattle.aspif.specs.Grammar.{integerOf}
 use Rattle.aspif.specs.Words.{word}
-use Rattle.terms.specs.Says.{Term, Found, defines, collects}
+use Rattle.terms.specs.Says.{Term, defines, collects}
 use Rattle.terms.specs.Terms.{defined, allDefined, functorKnown, faulty}
 use Rattle.terms.specs.Tables.{wordsAt, isTerm, termOn, elementOn, lookIn, elementsIn, envOf}
 use Rattle.terms.proofs.Signs.{term-half}
@@ -51,7 +52,7 @@ module _ (t terms : List ℕ) (q : ℕ) where
 
 -- ---- a compound's t
 
-no-functor : (look : ℕ → Found Term) (z : ℤ) → isTerm z ≡ false → true ≡ functorKnown look z
+no-functor : (look : ℕ → Option Term) (z : ℤ) → isTerm z ≡ false → true ≡ functorKnown look z
 no-functor look (pos n) h = let z : _≡_ {A = Bool} true false = h in (cc)
 no-functor look (negsuc n) h = refl
 

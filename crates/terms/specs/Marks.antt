@@ -4,7 +4,8 @@ use mathlib.Core.Path.{_≡_}
 use mathlib.Core.Bool.{Bool, _||_}
 use mathlib.Core.List.{List, map}
 use lib.ListN.{length}
-use Rattle.faults.specs.Marks.{among, isMarked}
+use Rattle.basics.specs.Lists.{among}
+use Rattle.basics.specs.inner.Bitmaps.{isMarked}
 use Rattle.terms.specs.Terms.{Stated}
 
 -- whether n is marked

@@ -3,13 +3,14 @@ use mathlib.Core.Path.{_≡_}
 use mathlib.Core.Bool.{Bool, true, false, _||_}
 use mathlib.Core.List.{List, [], _∷_}
 use mathlib.Core.Logic.{_⊎_}
-use Prim.Native.Nat.{ℕ, _<_}
+use mathlib.Core.Option.{Option, some, none}
+use Prim.Native.Nat.{ℕ}
 use lib.Dec.{eqb}
 use lib.IntN.{ℤ, pos, negℤ}
-use Rattle.faults.specs.Answer.{pick}
+use Rattle.basics.specs.Bools.{pick}
+use Rattle.basics.specs.Lists.{All, Some, Ascending, among}
 use Rattle.aspif.specs.Statements.{Literal, Head, empty, single, choice, Statement, rule, output, numeric, string, compound, element, theory, guarded, comment, Line}
-use Rattle.faults.specs.Marks.{among}
-use Rattle.diffs.specs.Diff.{Diff, All}
+use Rattle.diffs.specs.Diff.{Diff}
 
 -- ---- what a line is to terms and theory atoms
 
@@ -49,38 +50,33 @@ partOf (comment bs) = other
 
 -- ---- what the lines define
 
--- something, or nothing
-pub data Found (A : Type 0) : Type 0 where
-  found : A → Found A
-  nothing : Found A
-
 -- the first, or else the second
-abbrev pub orElse : {A : Type 0} → Found A → Found A → Found A
-orElse (found a) b = found a
-orElse nothing b = b
+abbrev pub orElse : {A : Type 0} → Option A → Option A → Option A
+orElse (some a) b = some a
+orElse none b = b
 
 -- what one line says of the term u
-abbrev pub termIn : ℕ → Part → Found Term
-termIn u (defines v t) = pick (eqb u v) (found t) nothing
-termIn u (collects v e) = nothing
-termIn u (states a p vs g) = nothing
-termIn u other = nothing
+abbrev pub termIn : ℕ → Part → Option Term
+termIn u (defines v t) = pick (eqb u v) (some t) none
+termIn u (collects v e) = none
+termIn u (states a p vs g) = none
+termIn u other = none
 
 -- what the term number u stands for
-unfoldable pub term : List Line → ℕ → Found Term
-term [] u = nothing
+unfoldable pub term : List Line → ℕ → Option Term
+term [] u = none
 term (l ∷ ls) u = orElse (termIn u (partOf (l .says))) (term ls u)
 
 -- what one line says of the element w
-abbrev pub elementIn : ℕ → Part → Found Element
-elementIn w (defines u t) = nothing
-elementIn w (collects v e) = pick (eqb w v) (found e) nothing
-elementIn w (states a p vs g) = nothing
-elementIn w other = nothing
+abbrev pub elementIn : ℕ → Part → Option Element
+elementIn w (defines u t) = none
+elementIn w (collects v e) = pick (eqb w v) (some e) none
+elementIn w (states a p vs g) = none
+elementIn w other = none
 
 -- what the element number v stands for
-unfoldable pub elementAt : List Line → ℕ → Found Element
-elementAt [] v = nothing
+unfoldable pub elementAt : List Line → ℕ → Option Element
+elementAt [] v = none
 elementAt (l ∷ ls) v = orElse (elementIn v (partOf (l .says))) (elementAt ls v)
 
 -- ---- differences
@@ -97,22 +93,22 @@ atMost = 60 ∷ 61 ∷ []
 
 -- k is the bound that the term u gives: a numeric term, or `-` with one numeric argument, then that number negated
 pub data Bound (ls : List Line) (u : ℕ) (k : ℤ) : Type 0 where
-  plain : term ls u ≡ found (num k) → Bound ls u k
+  plain : term ls u ≡ some (num k) → Bound ls u k
   negated : (t n : ℕ) (j : ℤ)
-      → term ls u ≡ found (comp (pos t) (n ∷ [])) → term ls t ≡ found (str minus) → term ls n ≡ found (num j) → k ≡ negℤ j
+      → term ls u ≡ some (comp (pos t) (n ∷ [])) → term ls t ≡ some (str minus) → term ls n ≡ some (num j) → k ≡ negℤ j
       → Bound ls u k
 
 -- name p, elements vs, operator g and bound u are the difference d
 pub record Difference (ls : List Line) (p : ℕ) (vs : List ℕ) (g u : ℕ) (d : Diff) : Type 0 where
-  pub named : term ls p ≡ found (str diffWord)
+  pub named : term ls p ≡ some (str diffWord)
   pub v : ℕ
   pub one : vs ≡ v ∷ []
   pub w : ℕ
-  pub inside : elementAt ls v ≡ found (elem (w ∷ []) [])
+  pub inside : elementAt ls v ≡ some (elem (w ∷ []) [])
   pub t : ℕ
-  pub pair : term ls w ≡ found (comp (pos t) (d .x ∷ d .y ∷ []))
-  pub sign : term ls t ≡ found (str minus)
-  pub order : term ls g ≡ found (str atMost)
+  pub pair : term ls w ≡ some (comp (pos t) (d .x ∷ d .y ∷ []))
+  pub sign : term ls t ≡ some (str minus)
+  pub order : term ls g ≡ some (str atMost)
   pub bound : Bound ls u (d .k)
 
 -- one line says that a is d
@@ -122,11 +118,6 @@ SaysIn ls a d (collects v e) = ⊥
 SaysIn ls a d (states b p vs unguarded) = ⊥
 SaysIn ls a d (states b p vs (guard g u)) = (b ≡ a) × Difference ls p vs g u d
 SaysIn ls a d other = ⊥
-
--- P holds of some member
-abbrev pub Some : {A : Type 0} → (A → Type 0) → List A → Type 0
-Some P [] = ⊥
-Some P (a ∷ l) = P a ⊎ Some P l
 
 -- the theory atom a says d. Numbers are looked up in the whole text: in one that 6 does not refuse, each is defined once and before its use
 abbrev pub Says : List Line → ℕ → Diff → Type 0
@@ -140,11 +131,6 @@ pub record Name (ls : List Line) (n : ℕ) : Type 0 where
   pub diff : Diff
   pub says : Says ls atom diff
   pub side : (diff .x ≡ n) ⊎ (diff .y ≡ n)
-
--- strictly ascending
-abbrev pub Ascending : List ℕ → Type 0
-Ascending [] = Unit {0}
-Ascending (n ∷ ns) = All (λ m. n < m) ns × Ascending ns
 
 -- ns are the names, strictly ascending
 pub record Names (ls : List Line) (ns : List ℕ) : Type 0 where

@@ -4,15 +4,17 @@ use Prim.Native.Nat.{ℕ, zero, suc, _+_, _≤_}
 use mathlib.Core.Path.{_≡_}
 use mathlib.Core.List.{List, [], _∷_, _++_, map}
 use mathlib.Core.Bool.{Bool, true, false, not}
+use mathlib.Core.Option.{Option, some, none}
 use lib.ListN.{length, getD}
 use lib.Dec.{eqb}
 use lib.IntN.{ℤ, pos, negsuc}
-use Rattle.faults.specs.Answer.{Answer, got, refused, mapped, pick}
+use Rattle.basics.specs.Bools.{pick}
+use Rattle.faults.specs.Answer.{Answer, got, refused, mapped}
 use Rattle.aspif.specs.Statements.{Line}
 use Rattle.aspif.specs.Grammar.{literalOf, integerOf}
 use Rattle.aspif.specs.Words.{word, saysAt, after, Small}
 use Rattle.diffs.specs.Diff.{Diff}
-use Rattle.terms.specs.Says.{Term, num, str, comp, Element, elem, Guard, unguarded, guard, Part, defines, collects, states, other, partOf, Found, found, nothing}
+use Rattle.terms.specs.Says.{Term, num, str, comp, Element, elem, Guard, unguarded, guard, Part, defines, collects, states, other, partOf}
 use Rattle.terms.specs.Terms.{Env, Stated, differenceOf, faulty, statedBy, more}
 use Rattle.faults.specs.declared.Step.{Step}
 use Rattle.faults.specs.declared.Step.the-variants.{Good, Refused}
@@ -73,18 +75,18 @@ partOn t p =
 
 -- ---- what an entry and a table mean
 
-unfoldable pub termAt : List ℕ → (entry : ℕ) → Found Term
-termAt t zero = nothing
-termAt t (suc p) = found (termOn t p)
+unfoldable pub termAt : List ℕ → (entry : ℕ) → Option Term
+termAt t zero = none
+termAt t (suc p) = some (termOn t p)
 
-unfoldable pub elementOf : List ℕ → (entry : ℕ) → Found Element
-elementOf t zero = nothing
-elementOf t (suc p) = found (elementOn t p)
+unfoldable pub elementOf : List ℕ → (entry : ℕ) → Option Element
+elementOf t zero = none
+elementOf t (suc p) = some (elementOn t p)
 
-unfoldable pub lookIn : List ℕ → (table : List ℕ) → ℕ → Found Term
+unfoldable pub lookIn : List ℕ → (table : List ℕ) → ℕ → Option Term
 lookIn t terms u = termAt t (word terms u)
 
-unfoldable pub elementsIn : List ℕ → (table : List ℕ) → ℕ → Found Element
+unfoldable pub elementsIn : List ℕ → (table : List ℕ) → ℕ → Option Element
 elementsIn t elements v = elementOf t (word elements v)
 
 unfoldable pub takenIn : (table : List ℕ) → ℕ → Bool
@@ -95,7 +97,7 @@ envOf t terms elements seen =
     record { terms = lookIn t terms; elements = elementsIn t elements; taken = takenIn seen }
 
 -- the difference that the theory atom at p states
-unfoldable pub statedOn : List ℕ → (terms elements : List ℕ) → ℕ → Found Diff
+unfoldable pub statedOn : List ℕ → (terms elements : List ℕ) → ℕ → Option Diff
 statedOn t terms elements p =
     differenceOf (lookIn t terms) (elementsIn t elements) (word t (p + 3)) (wordsAt t (p + 5) (word t (p + 4))) (guardOn t p)
 
@@ -109,8 +111,8 @@ abbrev pub at : {A : Type 0} → (ℕ → A) → ℕ → A → ℕ → A
 at f i a j = pick (eqb j i) a (f j)
 
 unfoldable pub add : Env → Part → Env
-add env (defines u t) = record { terms = at (env .terms) u (found t); elements = env .elements; taken = env .taken }
-add env (collects v e) = record { terms = env .terms; elements = at (env .elements) v (found e); taken = env .taken }
+add env (defines u t) = record { terms = at (env .terms) u (some t); elements = env .elements; taken = env .taken }
+add env (collects v e) = record { terms = env .terms; elements = at (env .elements) v (some e); taken = env .taken }
 add env (states a p vs g) = record { terms = env .terms; elements = env .elements; taken = at (env .taken) a true }
 add env other = env
 

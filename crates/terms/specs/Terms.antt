@@ -3,13 +3,16 @@ use Prim.Native.Nat.{ℕ, _<_}
 use mathlib.Core.Path.{_≡_}
 use mathlib.Core.List.{List, [], _∷_, _++_}
 use mathlib.Core.Bool.{Bool, true, false, _&&_, _||_, not}
+use mathlib.Core.Option.{Option, some, none}
 use lib.Dec.{eqb}
 use lib.IntN.{ℤ, pos, negsuc, negℤ}
-use Rattle.faults.specs.Answer.{Answer, got, refused, mapped, pick}
+use Rattle.basics.specs.Bools.{pick}
+use Rattle.basics.specs.Lists.{Some}
+use Rattle.faults.specs.Answer.{Answer, got, refused, mapped}
 use Rattle.aspif.specs.Statements.{Line}
 use Rattle.aspif.specs.Words.{Between}
 use Rattle.diffs.specs.Diff.{Diff}
-use Rattle.terms.specs.Says.{Term, num, str, comp, Element, elem, Guard, unguarded, guard, Part, defines, collects, states, other, partOf, Found, found, nothing, term, elementAt, diffWord, minus, atMost, headed, Some}
+use Rattle.terms.specs.Says.{Term, num, str, comp, Element, elem, Guard, unguarded, guard, Part, defines, collects, states, other, partOf, term, elementAt, diffWord, minus, atMost, headed}
 
 -- ---- what lines have defined and stated
 
@@ -27,8 +30,8 @@ taken (l ∷ ls) a = statesIn a (partOf (l .says)) || taken ls a
 
 -- what lines say of each number
 pub record Env : Type 0 where
-  pub terms : ℕ → Found Term
-  pub elements : ℕ → Found Element
+  pub terms : ℕ → Option Term
+  pub elements : ℕ → Option Element
   pub taken : ℕ → Bool
 
 -- what these lines say
@@ -36,12 +39,12 @@ abbrev pub known : List Line → Env
 known ls = record { terms = term ls; elements = elementAt ls; taken = taken ls }
 
 -- something is there
-abbrev pub defined : {A : Type 0} → Found A → Bool
-defined (found a) = true
-defined nothing = false
+abbrev pub defined : {A : Type 0} → Option A → Bool
+defined (some a) = true
+defined none = false
 
 -- every number of the list is defined
-unfoldable pub allDefined : {A : Type 0} → (ℕ → Found A) → List ℕ → Bool
+unfoldable pub allDefined : {A : Type 0} → (ℕ → Option A) → List ℕ → Bool
 allDefined look [] = true
 allDefined look (u ∷ us) = defined (look u) && allDefined look us
 
@@ -55,32 +58,32 @@ sameBytes (a ∷ s) [] = false
 sameBytes (a ∷ s) (b ∷ bs) = eqb a b && sameBytes s bs
 
 -- a term is the string l
-unfoldable pub isString : List ℕ → Found Term → Bool
-isString l nothing = false
-isString l (found (num k)) = false
-isString l (found (str s)) = sameBytes s l
-isString l (found (comp t us)) = false
+unfoldable pub isString : List ℕ → Option Term → Bool
+isString l none = false
+isString l (some (num k)) = false
+isString l (some (str s)) = sameBytes s l
+isString l (some (comp t us)) = false
 
 -- a compound's t is the string `-`
-unfoldable pub isMinus : (ℕ → Found Term) → ℤ → Bool
+unfoldable pub isMinus : (ℕ → Option Term) → ℤ → Bool
 isMinus look (pos t) = isString minus (look t)
 isMinus look (negsuc t) = false
 
 -- a numeric term, negated
-unfoldable pub opposite : Found Term → Found ℤ
-opposite nothing = nothing
-opposite (found (num k)) = found (negℤ k)
-opposite (found (str s)) = nothing
-opposite (found (comp t us)) = nothing
+unfoldable pub opposite : Option Term → Option ℤ
+opposite none = none
+opposite (some (num k)) = some (negℤ k)
+opposite (some (str s)) = none
+opposite (some (comp t us)) = none
 
 -- a numeric term, or a compound of `-` with one numeric argument
-unfoldable pub boundOf : (ℕ → Found Term) → Found Term → Found ℤ
-boundOf look nothing = nothing
-boundOf look (found (num k)) = found k
-boundOf look (found (str s)) = nothing
-boundOf look (found (comp t [])) = nothing
-boundOf look (found (comp t (n ∷ []))) = pick (isMinus look t) (opposite (look n)) nothing
-boundOf look (found (comp t (n ∷ m ∷ us))) = nothing
+unfoldable pub boundOf : (ℕ → Option Term) → Option Term → Option ℤ
+boundOf look none = none
+boundOf look (some (num k)) = some k
+boundOf look (some (str s)) = none
+boundOf look (some (comp t [])) = none
+boundOf look (some (comp t (n ∷ []))) = pick (isMinus look t) (opposite (look n)) none
+boundOf look (some (comp t (n ∷ m ∷ us))) = none
 
 -- x and y of a difference
 pub record Pair : Type 0 where
@@ -88,38 +91,38 @@ pub record Pair : Type 0 where
   pub y : ℕ
 
 -- a compound of `-` with two arguments
-unfoldable pub pairOf : (ℕ → Found Term) → Found Term → Found Pair
-pairOf look nothing = nothing
-pairOf look (found (num k)) = nothing
-pairOf look (found (str s)) = nothing
-pairOf look (found (comp t [])) = nothing
-pairOf look (found (comp t (x ∷ []))) = nothing
-pairOf look (found (comp t (x ∷ y ∷ []))) = pick (isMinus look t) (found (record { x = x; y = y })) nothing
-pairOf look (found (comp t (x ∷ y ∷ z ∷ us))) = nothing
+unfoldable pub pairOf : (ℕ → Option Term) → Option Term → Option Pair
+pairOf look none = none
+pairOf look (some (num k)) = none
+pairOf look (some (str s)) = none
+pairOf look (some (comp t [])) = none
+pairOf look (some (comp t (x ∷ []))) = none
+pairOf look (some (comp t (x ∷ y ∷ []))) = pick (isMinus look t) (some (record { x = x; y = y })) none
+pairOf look (some (comp t (x ∷ y ∷ z ∷ us))) = none
 
 -- an element with one term, which is such a compound, and no condition
-unfoldable pub pairIn : (ℕ → Found Term) → Found Element → Found Pair
-pairIn look nothing = nothing
-pairIn look (found (elem [] ls)) = nothing
-pairIn look (found (elem (w ∷ []) [])) = pairOf look (look w)
-pairIn look (found (elem (w ∷ []) (l ∷ ls))) = nothing
-pairIn look (found (elem (w ∷ u ∷ us) ls)) = nothing
+unfoldable pub pairIn : (ℕ → Option Term) → Option Element → Option Pair
+pairIn look none = none
+pairIn look (some (elem [] ls)) = none
+pairIn look (some (elem (w ∷ []) [])) = pairOf look (look w)
+pairIn look (some (elem (w ∷ []) (l ∷ ls))) = none
+pairIn look (some (elem (w ∷ u ∷ us) ls)) = none
 
 -- x, y and k together
-abbrev pub joined : Found Pair → Found ℤ → Found Diff
-joined (found p) (found k) = found (record { x = p .x; y = p .y; k = k })
-joined (found p) nothing = nothing
-joined nothing b = nothing
+abbrev pub joined : Option Pair → Option ℤ → Option Diff
+joined (some p) (some k) = some (record { x = p .x; y = p .y; k = k })
+joined (some p) none = none
+joined none b = none
 
 -- the difference of name p, elements vs, and operator and bound
-unfoldable pub differenceOf : (ℕ → Found Term) → (ℕ → Found Element) → (p : ℕ) → List ℕ → Guard → Found Diff
-differenceOf look els p [] g = nothing
-differenceOf look els p (v ∷ w ∷ vs) g = nothing
-differenceOf look els p (v ∷ []) unguarded = nothing
+unfoldable pub differenceOf : (ℕ → Option Term) → (ℕ → Option Element) → (p : ℕ) → List ℕ → Guard → Option Diff
+differenceOf look els p [] g = none
+differenceOf look els p (v ∷ w ∷ vs) g = none
+differenceOf look els p (v ∷ []) unguarded = none
 differenceOf look els p (v ∷ []) (guard g u) =
     pick (isString diffWord (look p))
-    (pick (isString atMost (look g)) (joined (pairIn look (els v)) (boundOf look (look u))) nothing)
-    nothing
+    (pick (isString atMost (look g)) (joined (pairIn look (els v)) (boundOf look (look u))) none)
+    none
 
 -- ---- the four tests
 
@@ -131,22 +134,22 @@ twice env (states a p vs g) = false
 twice env other = false
 
 -- t is defined, where it is a term number
-abbrev pub functorKnown : (ℕ → Found Term) → ℤ → Bool
+abbrev pub functorKnown : (ℕ → Option Term) → ℤ → Bool
 functorKnown look (pos t) = defined (look t)
 functorKnown look (negsuc t) = true
 
 -- a term uses what is defined
-abbrev pub termUses : (ℕ → Found Term) → Term → Bool
+abbrev pub termUses : (ℕ → Option Term) → Term → Bool
 termUses look (num k) = true
 termUses look (str s) = true
 termUses look (comp t us) = functorKnown look t && allDefined look us
 
 -- and so does an element
-abbrev pub elementUses : (ℕ → Found Term) → Element → Bool
+abbrev pub elementUses : (ℕ → Option Term) → Element → Bool
 elementUses look (elem us ls) = allDefined look us
 
 -- and so do operator and bound
-abbrev pub guardUses : (ℕ → Found Term) → Guard → Bool
+abbrev pub guardUses : (ℕ → Option Term) → Guard → Bool
 guardUses look unguarded = true
 guardUses look (guard g u) = defined (look g) && defined (look u)
 
@@ -184,21 +187,21 @@ pub record Stated : Type 0 where
   pub says : Diff
 
 -- a difference as that of a
-abbrev pub statedAs : ℕ → Found Diff → Found Stated
-statedAs a (found d) = found (record { atom = a; says = d })
-statedAs a nothing = nothing
+abbrev pub statedAs : ℕ → Option Diff → Option Stated
+statedAs a (some d) = some (record { atom = a; says = d })
+statedAs a none = none
 
 -- the difference that a line states
-abbrev pub statedBy : Env → Part → Found Stated
-statedBy env (defines u t) = nothing
-statedBy env (collects v e) = nothing
+abbrev pub statedBy : Env → Part → Option Stated
+statedBy env (defines u t) = none
+statedBy env (collects v e) = none
 statedBy env (states a p vs g) = statedAs a (differenceOf (env .terms) (env .elements) p vs g)
-statedBy env other = nothing
+statedBy env other = none
 
 -- a difference in front of the others
-abbrev pub more : Found Stated → Answer (List Stated) → Answer (List Stated)
-more (found d) r = mapped (λ (ds : List Stated). d ∷ ds) r
-more nothing r = r
+abbrev pub more : Option Stated → Answer (List Stated) → Answer (List Stated)
+more (some d) r = mapped (λ (ds : List Stated). d ∷ ds) r
+more none r = r
 
 -- of the lines ls, behind the lines before
 unfoldable pub differencesFrom : (before ls : List Line) → Answer (List Stated)

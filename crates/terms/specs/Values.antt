@@ -1,6 +1,7 @@
 -- What each case of an answer stands for. Assumes nothing.
 use Prim.Native.Nat.{ℕ, _≤_}
 use mathlib.Core.List.{List}
+use mathlib.Core.Option.{Option, some, none}
 use lib.ListN.{length}
 use lib.IntN.{ℤ}
 use Rattle.faults.specs.Answer.{Answer, got, refused}
@@ -8,7 +9,6 @@ use Rattle.faults.specs.Values.{number}
 use Rattle.faults.specs.declared.Step.{Step}
 use Rattle.faults.specs.declared.Step.the-variants.{Good, Refused}
 use Rattle.diffs.specs.Diff.{Diff}
-use Rattle.terms.specs.Says.{Found, found, nothing}
 use Rattle.terms.specs.Terms.{Pair, Stated}
 use Rattle.terms.specs.Tables.{firsts, heldAt}
 use Rattle.terms.specs.declared.difference.Limit.{Limit}
@@ -18,17 +18,17 @@ use Rattle.terms.specs.declared.difference.Limit.the-variants as limit
 use Rattle.terms.specs.declared.difference.Sides.the-variants as sides
 use Rattle.terms.specs.declared.difference.Said.the-variants as said
 
-abbrev pub asLimit : Limit → Found ℤ
-asLimit (limit.Is k) = found k
-asLimit limit.Not = nothing
+abbrev pub asLimit : Limit → Option ℤ
+asLimit (limit.Is k) = some k
+asLimit limit.Not = none
 
-abbrev pub asSides : Sides → Found Pair
-asSides (sides.Are x y) = found (record { x = x .0; y = y .0 })
-asSides sides.Not = nothing
+abbrev pub asSides : Sides → Option Pair
+asSides (sides.Are x y) = some (record { x = x .0; y = y .0 })
+asSides sides.Not = none
 
-abbrev pub asSaid : Said → Found Diff
-asSaid (said.Is x y k) = found (record { x = x .0; y = y .0; k = k })
-asSaid said.Not = nothing
+abbrev pub asSaid : Said → Option Diff
+asSaid (said.Is x y k) = some (record { x = x .0; y = y .0; k = k })
+asSaid said.Not = none
 
 -- the differences that stand in the first places of four slices
 abbrev pub asDifferences : Step → (atoms xs ys : List ℕ) → List ℤ → Answer (List Stated)

@@ -3,7 +3,7 @@ ghost use mathlib.Core.Path.{_≡_};
 ghost use mathlib.Core.Bool.{false, _&&_, _||_, not};
 ghost use Prim.Native.Nat.{ℕ, _+_, _≤_, _<_};
 ghost use lib.ListN.{length, take, set};
-ghost use Rattle.faults.specs.Marks.{among};
+ghost use Rattle.basics.specs.Lists.{among};
 ghost use Rattle.aspif.specs.Words.{saysAt, after, linesOf, Taped};
 ghost use Rattle.terms.specs.Says.{heads, headed};
 ghost use Rattle.terms.specs.Tables.{wordsAt, headCount};

@@ -6,7 +6,8 @@ use mathlib.Core.List.{List, [], _∷_}
 use mathlib.Core.Logic.{_↔_}
 use native.Mathlib.Omega.{arith}
 use lib.Dec.{eqb}
-use Rattle.faults.specs.Answer.{got, refused, pick}
+use Rattle.basics.specs.Bools.{pick}
+use Rattle.faults.specs.Answer.{got, refused}
 use Rattle.faults.specs.Values.{number}
 use Rattle.faults.specs.declared.Kind.{Kind}
 use Rattle.faults.specs.declared.Kind.the-variants.{Room, Long, Grammar, Carried, Bounds, Terms, Candidate, Broken, Unfounded, Cycle, Late, NotTable, NotNamed}

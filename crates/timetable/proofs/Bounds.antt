@@ -7,7 +7,7 @@ use native.Mathlib.Omega.{arith}
 use borrow.Author.Tests.{leb-true}
 use lib.Dec.{leb}
 use lib.ListN.{length, length-map}
-use Rattle.faults.proofs.Bools.{and-cases}
+use Rattle.basics.proofs.Bools.{and-cases}
 use Rattle.timetable.specs.Table.{Record, Content, lastTerm, latest, lastAtom, ascending, inTime, namesOf, within}
 
 pub record First (low high x : ℕ) (xs : List ℕ) : Type 0 where

@@ -9,8 +9,8 @@ use borrow.Author.Tests.{eq-eqb, ne-eqb, le-leb}
 use lib.Dec.{eqb}
 use lib.ListN.{length, getD, drop, length-drop, drop-of-length-le}
 use lib.Seq.{drop-cons}
-use Rattle.faults.specs.Answer.{pick}
-use Rattle.faults.specs.Marks.{marks, markedFrom}
+use Rattle.basics.specs.Bools.{pick}
+use Rattle.basics.specs.inner.Bitmaps.{marks, markedFrom}
 use Rattle.timetable.specs.Table.{ascending}
 
 module _ (map : List ℕ) (i : ℕ) where

@@ -6,8 +6,8 @@ use native.Mathlib.Omega.{arith}
 use lib.ListN.{length, drop, replicate, length-replicate}
 use Rattle.faults.specs.Answer.{got, refused}
 use Rattle.timetable.specs.Word.{word, wordAt}
-use Rattle.faults.specs.Marks.{marks, markedFrom}
-use Rattle.faults.proofs.Lists.{zeros}
+use Rattle.basics.specs.inner.Bitmaps.{marks, markedFrom}
+use Rattle.basics.proofs.Lists.{zeros}
 use Rattle.timetable.specs.Table.{Content, recordBytes, atomBytes, headerBytes, tableOf, ascending, inTime, within, recordsAt, atomsAt, isTable}
 use Rattle.timetable.specs.Times.{timeAmong, timeOf}
 use Rattle.timetable.specs.Given.{timeAt, recordsOf, given, Sized, Timely}

@@ -8,7 +8,7 @@ use borrow.Author.Tests.{eqb-true, eq-eqb, ne-eqb, le-leb, lt-leb}
 use lib.Dec.{eqb, leb}
 use lib.ListN.{length}
 use Rattle.faults.specs.Answer.{got, refused}
-use Rattle.faults.proofs.Bools.{and-cases}
+use Rattle.basics.proofs.Bools.{and-cases}
 use Rattle.timetable.specs.Word.{wordAt}
 use Rattle.timetable.specs.Table.{lastTerm, latest, lastAtom, ascending, inTime, namesOf, within, recordsAt, atomsAt, nameCount, atomCount, shown, isTable}
 use Rattle.timetable.specs.Times.{timeAmong}

@@ -8,8 +8,9 @@ use native.Mathlib.Nat.{add-zero, zero-add}
 use borrow.Author.Tests.{eq-eqb, ne-eqb, le-leb}
 use lib.Dec.{eqb}
 use lib.ListN.{length}
-use Rattle.faults.specs.Answer.{got, refused, pick}
-use Rattle.faults.specs.Marks.{isMarked, marks, markedFrom}
+use Rattle.faults.specs.Answer.{got, refused}
+use Rattle.basics.specs.Bools.{pick}
+use Rattle.basics.specs.inner.Bitmaps.{isMarked, marks, markedFrom}
 use Rattle.timetable.specs.Table.{Content, tableOf, lastTerm, latest, lastAtom, inTime, namesOf, within}
 use Rattle.timetable.specs.Times.{timeAmong, timeOf}
 use Rattle.timetable.specs.Given.{timeAt, recordsOf, given, Timely}

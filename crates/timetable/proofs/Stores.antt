@@ -6,7 +6,7 @@ use native.Mathlib.Omega.{arith}
 use native.Mathlib.Nat.{zero-add}
 use lib.ListN.{length, set, take, drop, length-drop, drop-of-length-le, take-append-drop}
 use lib.Seq.{sets, take-all, length-take-le}
-use Rattle.faults.proofs.Lists.{sets-append}
+use Rattle.basics.proofs.Lists.{sets-append}
 
 -- a run that is stored where the run before it ends is one run with it
 pub sets-next : (l r : List ℕ) (o p : ℕ) (xs ys : List ℕ) → r ≡ sets l o xs → p ≡ o + length xs

@@ -7,7 +7,7 @@ use native.Mathlib.Nat.{zero-add}
 use lib.ListN.{length, getD, length-append, length-map}
 use lib.Seq.{sets, sets-eq}
 use Rattle.timetable.specs.Word.{word}
-use Rattle.faults.specs.Marks.{markedFrom}
+use Rattle.basics.specs.inner.Bitmaps.{markedFrom}
 use Rattle.timetable.specs.Table.{Record, Content, recordBytes, atomBytes, headerBytes, tableOf}
 use Rattle.timetable.specs.Given.{timeAt, recordsOf, given, Written}
 use Rattle.timetable.proofs.Stores.{sets-next}

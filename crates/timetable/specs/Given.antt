@@ -4,7 +4,7 @@ use mathlib.Core.Path.{_≡_}
 use mathlib.Core.Bool.{true}
 use mathlib.Core.List.{List, _++_, map}
 use lib.ListN.{length, getD, drop}
-use Rattle.faults.specs.Marks.{isMarked, markedFrom}
+use Rattle.basics.specs.inner.Bitmaps.{isMarked, markedFrom}
 use Rattle.timetable.specs.Table.{Record, Content, latest}
 
 -- the time of a term number; 0 past the end

@@ -6,7 +6,7 @@ ghost use mathlib.Core.List.{_++_};
 ghost use lib.ListN.{length};
 ghost use lib.Seq.{sets};
 ghost use Rattle.timetable.specs.Word.{word, wordAt};
-ghost use Rattle.faults.specs.Marks.{markedFrom};
+ghost use Rattle.basics.specs.inner.Bitmaps.{markedFrom};
 ghost use Rattle.timetable.specs.Table.{tableOf, headerBytes, recordBytes, atomBytes, recordsAt, atomsAt, lastTerm, lastAtom, ascending, namesOf, inTime, isTable};
 ghost use Rattle.timetable.specs.Times.{asTime, timeAmong, timeOf};
 ghost use Rattle.timetable.specs.Given.{timeAt, recordsOf, given, Sized, Timely, Written};

@@ -1,7 +1,7 @@
 -- `first_broken`: the lines ahead have the first broken rule of all lines, since those passed are whole. Assumes nothing.
 use mathlib.Core.Logic.{⊎-elim}
 use native.Mathlib.Omega.{arith}
-use Rattle.faults.specs.Marks.{isMarked}
+use Rattle.basics.specs.inner.Bitmaps.{isMarked}
 use Rattle.stable.proofs.Breaking.{Passed, start, here, rule-here, broken-here, pass-whole, pass-other, end}
 use Rattle.stable.proofs.first_broken.Statement.{statement}
 use Rattle.stable.proofs.first_broken.Tie as tie

@@ -4,7 +4,7 @@ use mathlib.Core.Logic.{⊎-elim}
 use native.Mathlib.Omega.{arith}
 use borrow.Author.Needs.{needs}
 use borrow.Author.Tests.{eq-eqb, ne-eqb}
-use Rattle.faults.specs.Marks.{isMarked}
+use Rattle.basics.specs.inner.Bitmaps.{isMarked}
 use Rattle.stable.proofs.Breaking.{choice-whole, head-inside, head-atom, head-whole, head-broken, empty-broken}
 use Rattle.stable.proofs.Heads.{literals-at}
 use Rattle.stable.proofs.is_broken.Statement.{statement}

@@ -4,7 +4,7 @@ use mathlib.Core.Path.{_∙_}
 use native.Mathlib.Omega.{arith}
 use borrow.Author.Needs.{needs}
 use Rattle.stable.specs.Steps.{marked}
-use Rattle.faults.specs.Marks.{isMarked}
+use Rattle.basics.specs.inner.Bitmaps.{isMarked}
 use Rattle.stable.proofs.Rounds.{Between, first, again, less, end-least}
 use Rattle.stable.proofs.least.Statement.{statement}
 use Rattle.stable.proofs.least.Tie as tie

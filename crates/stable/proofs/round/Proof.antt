@@ -1,7 +1,7 @@
 -- `round`: each visit adds only what every model has, and nothing where nothing is new. Assumes nothing.
 use Prim.Native.Nat.{_-_}
 use native.Mathlib.Omega.{arith}
-use Rattle.faults.specs.Marks.{isMarked}
+use Rattle.basics.specs.inner.Bitmaps.{isMarked}
 use Rattle.stable.proofs.Rounds.{Turn, start, rule-here, few, visit, end}
 use Rattle.stable.proofs.round.Statement.{statement}
 use Rattle.stable.proofs.round.Tie as tie

@@ -4,7 +4,7 @@ use Prim.Native.Nat.{_+_, _-_, _≤_}
 use mathlib.Core.Path.{_≡_, ap}
 use native.Mathlib.Omega.{arith}
 use lib.ListN.{length}
-use Rattle.faults.specs.Marks.{markedFrom}
+use Rattle.basics.specs.inner.Bitmaps.{markedFrom}
 use Rattle.timetable.proofs.Marks.{few-marked, marked-none, marked-pass, marked-take}
 use Rattle.timetable.proofs.count_marked.Statement.{statement}
 use Rattle.timetable.proofs.count_marked.Tie as tie

@@ -7,7 +7,7 @@ use mathlib.Core.List.{_++_}
 use native.Mathlib.Omega.{arith}
 use lib.ListN.{length, take, drop}
 use lib.Seq.{length-sets}
-use Rattle.faults.specs.Marks.{markedFrom}
+use Rattle.basics.specs.inner.Bitmaps.{markedFrom}
 use Rattle.timetable.specs.Table.{headerBytes, recordBytes, atomBytes}
 use Rattle.timetable.specs.Given.{timeAt, recordsOf}
 use Rattle.timetable.proofs.Stores.{part-stored}

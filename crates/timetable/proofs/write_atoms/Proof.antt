@@ -5,7 +5,7 @@ use Prim.Native.Nat.{_+_, _-_, _*_, _≤_}
 use mathlib.Core.Path.{_≡_, refl, ap, _∙_}
 use native.Mathlib.Omega.{arith}
 use lib.ListN.{length}
-use Rattle.faults.specs.Marks.{markedFrom}
+use Rattle.basics.specs.inner.Bitmaps.{markedFrom}
 use Rattle.timetable.proofs.Marks.{marked-pass, marked-take}
 use Rattle.timetable.proofs.Writing.{withAtoms, atoms-none, atoms-pass, atoms-take}
 use Rattle.timetable.proofs.write_atoms.Statement.{statement}

@@ -6,7 +6,7 @@ use mathlib.Core.Path.{_≡_, refl, ap, _∙_}
 use native.Mathlib.Omega.{arith}
 use borrow.Author.Tests.{eq-eqb}
 use lib.ListN.{length}
-use Rattle.faults.specs.Marks.{markedFrom}
+use Rattle.basics.specs.inner.Bitmaps.{markedFrom}
 use Rattle.timetable.proofs.Marks.{marked-pass, marked-take}
 use Rattle.timetable.proofs.Writing.{withRecords, records-none, records-pass, records-take}
 use Rattle.timetable.proofs.write_names.Statement.{statement}

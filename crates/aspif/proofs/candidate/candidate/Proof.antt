@@ -2,7 +2,7 @@
 use mathlib.Core.Path.{sym, ap, _∙_}
 use borrow.Author.Needs.{needs}
 use Rattle.fields.specs.Values.{asPassed}
-use Rattle.faults.proofs.Marks.{marks-none}
+use Rattle.basics.proofs.Bitmaps.{marks-none}
 use Rattle.aspif.proofs.Candidates.{empty-refused, empty-good, candidate-other}
 use Rattle.aspif.proofs.candidate.candidate.Statement.{statement}
 use Rattle.aspif.proofs.candidate.candidate.Tie as tie

@@ -3,7 +3,7 @@ use borrow.Author.Needs.{needs}
 use mathlib.Core.Path.{_∙_}
 use mathlib.Core.List.{[], _∷_}
 use native.Mathlib.Omega.{arith}
-use Rattle.faults.proofs.Lists.{sets-append}
+use Rattle.basics.proofs.Lists.{sets-append}
 use Rattle.aspif.proofs.tape.begin_with.Statement.{statement}
 use Rattle.aspif.proofs.tape.begin_with.Tie as tie
 

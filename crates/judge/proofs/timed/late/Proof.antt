@@ -3,7 +3,7 @@ use Prim.Native.Nat.{_-_}
 use mathlib.Core.Path.{_≡_, refl, _∙_}
 use borrow.Author.Needs.{needs}
 use lib.ListN.{length}
-use Rattle.faults.specs.Marks.{markedFrom}
+use Rattle.basics.specs.inner.Bitmaps.{markedFrom}
 use Rattle.timetable.specs.Given.{timeAt}
 use Rattle.judge.specs.Judged.{inTime}
 use Rattle.judge.proofs.Lateness.{late-pass, late-time, late-found, late-end}

@@ -5,7 +5,7 @@ use mathlib.Core.Bool.{not, _&&_}
 use lib.ListN.{length, take}
 use Rattle.terms.proofs.Marking.{free-skip, free-next}
 use native.Mathlib.Omega.{arith}
-use Rattle.faults.specs.Marks.{among}
+use Rattle.basics.specs.Lists.{among}
 use Rattle.terms.specs.Marks.{marked, Marks}
 use borrow.Author.Needs.{needs}
 use Rattle.terms.proofs.marks.mark_free.Statement.{statement}

@@ -6,7 +6,7 @@ use lib.ListN.{length, take}
 use Rattle.terms.proofs.Marking.{names-next}
 use Rattle.terms.specs.Marks.{Marks}
 use native.Mathlib.Omega.{arith}
-use Rattle.faults.specs.Marks.{among}
+use Rattle.basics.specs.Lists.{among}
 use borrow.Author.Needs.{needs}
 use Rattle.terms.proofs.marks.mark_names.Statement.{statement}
 use Rattle.terms.proofs.marks.mark_names.Tie as tie

@@ -1,15 +1,10 @@
--- Bitmaps: a list in which a number is marked where its place holds 1. Assumes nothing.
+-- Inner: bitmaps, lists in which a number is marked where its place holds 1. Assumes nothing.
 use Prim.Native.Nat.{ℕ, _+_}
-use mathlib.Core.Bool.{Bool, false, _||_}
+use mathlib.Core.Bool.{Bool}
 use mathlib.Core.List.{List, [], _∷_}
 use lib.Dec.{eqb}
 use lib.ListN.{getD, drop}
-use Rattle.faults.specs.Answer.{pick}
-
--- a stands in the list
-abbrev pub among : ℕ → List ℕ → Bool
-among a [] = false
-among a (b ∷ bs) = eqb a b || among a bs
+use Rattle.basics.specs.Bools.{pick}
 
 -- whether n is marked; no number past the end is
 abbrev pub isMarked : List ℕ → ℕ → Bool

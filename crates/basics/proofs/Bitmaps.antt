@@ -8,9 +8,10 @@ use native.Mathlib.Nat.{add-zero}
 use borrow.Author.Tests.{eq-eqb, ne-eqb}
 use lib.Dec.{eqb}
 use lib.ListN.{length, getD, set}
-use Rattle.faults.specs.Answer.{pick}
-use Rattle.faults.specs.Marks.{among, isMarked, marks}
-use Rattle.faults.proofs.Bools.{or-assoc}
+use Rattle.basics.specs.Bools.{pick}
+use Rattle.basics.specs.Lists.{among}
+use Rattle.basics.specs.inner.Bitmaps.{isMarked, marks}
+use Rattle.basics.proofs.Bools.{or-assoc}
 
 none-from : (i : ℕ) (x : List ℕ) → ((a : ℕ) → getD x a 0 ≡ 0) → marks i x ≡ []
 unfolding marks

@@ -1,4 +1,4 @@
 -- General laws.
 pub mod Bools
 pub mod Lists
-pub mod Marks
+pub mod Bitmaps
