@@ -5,18 +5,17 @@ use mathlib.Core.List.{List, [], _∷_, map}
 use mathlib.Core.Bool.{Bool, true, false}
 use native.Mathlib.Omega.{arith}
 use borrow.Author.Tests.{eqb-true, eqb-false}
-use lib.Dec.{eqb}
+use lib.Dec.{eqb, lit<}
 use lib.IntN.{pos, negℤ}
 use lib.ListN.{length}
 use Rattle.basics.specs.Bools.{pick}
-use Rattle.fields.specs.Reading.{found, placed}
-use Rattle.fields.specs.Fields.{byteAt, byte, natural, negative, integer, nextInteger}
-use Rattle.fields.specs.Tape.{listed}
-use Rattle.fields.proofs.Taping.{counted-few}
-use Rattle.aspif.specs.Statements.{positive, negated}
+use Rattle.fields.specs.Reading.{found}
+use Rattle.fields.specs.Fields.{nextInteger}
+use Rattle.fields.specs.inner.Tape.{listed}
+use Rattle.fields.proofs.Readers.{by-carried, reads-ends, nextInteger-reads, counted-reads}
+use Rattle.aspif.specs.Statements.{positive, negated, Head, empty, single, choice, headAtoms}
 use Rattle.aspif.specs.Grammar.{literalOf, integerOf, headOf, heads}
-use Rattle.aspif.specs.Words.{literalWord, integerWord, headWords}
-use Rattle.aspif.proofs.Always.{Always, always-found, always-after, always-pick, always-unless}
+use Rattle.aspif.specs.inner.Words.{literalWord, integerWord, headWords}
 use Rattle.fields.specs.declared.Item.the-variants as of
 
 -- ---- the halves of a word
@@ -57,20 +56,31 @@ integer-word w o = go (eqb (w % 2) 0) refl
     go true q = word-even w (eqb-true (w % 2) 0 q)
     go false q = minus (w / 2) (word-odd w (eqb-false (w % 2) 0 q))
 
--- an integer is never read as minus 0
-not-minus : (low high : ℕ) (s : List ℕ) (at : ℕ) → Always (λ w n. w ≡ 1 → ⊥) (nextInteger low high s at)
-unfolding nextInteger integer negative
-not-minus low high s at =
-    always-after (byte 32 s at) _ (λ u m.
-    always-pick (eqb (byteAt s m) 45)
-    (always-after (placed m (natural 5 low s (m + 1))) _ (λ v n. always-unless (eqb v 0) 3 m (2 * v + 1) n (λ q e. omega (arith, eqb-false v 0 q))))
-    (always-after (natural 5 high s m) _ (λ v n. always-found (2 * v) n (λ e. omega arith))))
-
 -- the word of an integer that was read is the word of the integer that it says
 pub integer-forth : (low high : ℕ) (s : List ℕ) (at w n : ℕ) → found w n ≡ nextInteger low high s at → integerWord (integerOf w) ≡ w
-integer-forth low high s at w n e = integer-word w (not-minus low high s at .holds w n e)
+integer-forth low high s at w n e =
+    let f = reads-ends (lit< tt) (nextInteger-reads low high s at) w n e in
+    integer-word w (λ z. omega (arith, z, f .0 .odd (λ o. omega (arith, z, o)) .0))
 
 -- ---- a head
+
+-- the kind of a head
+pub kindOf : Head → ℕ
+kindOf empty = 0
+kindOf (single a) = 0
+kindOf (choice hs) = 1
+
+pub head-words : (h : Head) → headWords h ≡ kindOf h ∷ listed (headAtoms h)
+unfolding kindOf
+head-words empty = refl
+head-words (single a) = refl
+head-words (choice hs) = refl
+
+pub head-back : (h : Head) → headOf (kindOf h) (headAtoms h) ≡ h
+unfolding kindOf
+head-back empty = refl
+head-back (single a) = refl
+head-back (choice hs) = refl
 
 -- the words of a head are its kind and the list of its atoms
 pub head-forth : (kind : ℕ) (hs : List ℕ) → kind ≤ 1 → (kind ≡ 0 → length hs ≤ 1) → headWords (headOf kind hs) ≡ kind ∷ listed hs
@@ -83,5 +93,5 @@ head-forth (suc (suc k)) hs h l = absurd (omega arith)
 -- a plain head that was read has at most one atom
 pub heads-few : (kind : ℕ) (s : List ℕ) (at : ℕ) (hs : List ℕ) (n : ℕ) → found hs n ≡ heads kind s at → kind ≡ 0 → length hs ≤ 1
 unfolding heads
-heads-few zero s at hs n e z = counted-few of.Atom 4 1 s at hs n e
+heads-few zero s at hs n e z = reads-ends (lit< tt) (counted-reads of.Atom 4 1 by-carried s at) hs n e .0 .1
 heads-few (suc kind) s at hs n e z = absurd (omega arith)

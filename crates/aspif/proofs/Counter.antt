@@ -4,15 +4,16 @@ use mathlib.Core.Path.{_≡_, refl, sym, ap}
 use mathlib.Core.List.{List, [], _∷_}
 use mathlib.Core.Bool.{Bool, true, false}
 use native.Mathlib.Omega.{arith}
-use lib.Dec.{eqb}
+use lib.Dec.{eqb, lit<}
 use lib.ListN.{length, drop, length-drop}
 use Rattle.basics.specs.Bools.{pick}
-use Rattle.fields.specs.Reading.{Reading, found, fault, bind, _>>=_, _>>_, pure}
+use Rattle.fields.specs.Reading.{Reading, found, fault, andThen, _>>=_, _>>_, pure}
 use Rattle.fields.specs.Fields.{natural, field, isSeparator}
 use Rattle.fields.proofs.Runs.{upTo-length}
-use Rattle.fields.proofs.Naturals.{natural-none, natural-within}
+use Rattle.fields.proofs.Naturals.{natural-none}
 use Rattle.aspif.specs.Grammar.{lineOf, lastLine, lines, firstLine, plan}
-use Rattle.aspif.proofs.Bounds.{line-kept}
+use Rattle.fields.proofs.Readers.{reads-ends, natural-within}
+use Rattle.aspif.proofs.Kept.{line-reads}
 
 -- past the end of the text there is no line, whatever the count
 lines-past : (n : ℕ) (s : List ℕ) (at : ℕ) → length s ≤ at → fault 3 at ≡ lines n s at
@@ -23,9 +24,9 @@ lines-past (suc n) s at h =
     rw (← natural-none s at at e 3 10 (omega arith))
 
 -- two ways to go on that agree on every value that is found
-bind-same : {A B : Type 0} (a : Reading A) (f g : A → ℕ → Reading B) → ((v : A) (n : ℕ) → found v n ≡ a → f v n ≡ g v n) → bind a f ≡ bind a g
-bind-same (found v n) f g h = h v n refl
-bind-same (fault k p) f g h = refl
+andThen-same : {A B : Type 0} (a : Reading A) (f g : A → ℕ → Reading B) → ((v : A) (n : ℕ) → found v n ≡ a → f v n ≡ g v n) → andThen a f ≡ andThen a g
+andThen-same (found v n) f g h = h v n refl
+andThen-same (fault k p) f g h = refl
 
 -- two counts that reach the end of the text give the same lines
 pub lines-enough : (n m : ℕ) (s : List ℕ) (at : ℕ) → length s ≤ at + n → length s ≤ at + m → lines n s at ≡ lines m s at
@@ -33,7 +34,7 @@ unfolding lines
 lines-enough zero m s at h k = lines-past m s at (omega arith)
 lines-enough (suc n) zero s at h k = sym (lines-past (suc n) s at (omega arith))
 lines-enough (suc n) (suc m) s at h k =
-    bind-same (natural 3 10 s at) _ _ (λ i j e.
+    andThen-same (natural 3 10 s at) _ _ (λ i j e.
     go (λ l d. lines-enough n m s l (omega arith) (omega arith)) i j (natural-within 3 10 s at i j e .1) (eqb i 0))
   where
     go : ((l : ℕ) → at < l → lines n s l ≡ lines m s l) → (i j : ℕ) → at < j → (t : Bool)
@@ -41,12 +42,12 @@ lines-enough (suc n) (suc m) s at h k =
         ≡ (pick t (lastLine >> pure []) (lineOf i at >>= (λ x. lines m >>= (λ xs. pure (x ∷ xs))))) s j
     go r i j d true = refl
     go r i j d false =
-        bind-same (lineOf i at s j) _ _ (λ x l e.
-        let c = line-kept (suc at) at (omega arith) s i j .holds x l e in
-        ap (λ a. bind a (λ xs o. found (x ∷ xs) o)) (r l (omega arith)))
+        andThen-same (lineOf i at s j) _ _ (λ x l e.
+        let c = reads-ends (lit< tt) (line-reads s i at j (omega arith)) x l e in
+        ap (λ a. andThen a (λ xs o. found (x ∷ xs) o)) (r l (omega arith)))
 
 -- a count of the text's length or more gives the plan
-pub plan-enough : (n : ℕ) (s : List ℕ) (at : ℕ) → length s ≤ n → bind (firstLine s at) (λ u k. lines n s k) ≡ plan s at
+pub plan-enough : (n : ℕ) (s : List ℕ) (at : ℕ) → length s ≤ n → andThen (firstLine s at) (λ u k. lines n s k) ≡ plan s at
 unfolding plan
 plan-enough n s at h =
-    bind-same (firstLine s at) _ _ (λ u k e. lines-enough n (length s) s k (omega arith) (omega arith))
+    andThen-same (firstLine s at) _ _ (λ u k e. lines-enough n (length s) s k (omega arith) (omega arith))

@@ -2,15 +2,18 @@
 use Prim.Native.Nat.{ℕ, suc, _+_, _*_, _/_, _%_, _≤_}
 use mathlib.Core.Path.{_≡_, refl, sym, ap, _∙_}
 use mathlib.Core.List.{List, [], _∷_, _++_, map, append-assoc}
+use mathlib.Core.Option.{some}
 use native.Mathlib.Omega.{arith}
 use native.Mathlib.Nat.{add-zero}
 use lib.IntN.{ℤ, pos, negsuc}
 use lib.ListN.{length, getD, drop, length-append}
-use lib.Seq.{sets, sets-eq, length-sets, getD-drop, drop-drop, take-append-seam, drop-append-seam}
-use Rattle.fields.specs.Tape.{listed}
-use Rattle.aspif.specs.Statements.{Literal, positive, negated, Head, empty, single, choice, Statement, rule, output, numeric, string, compound, element, theory, guarded, comment, Line}
-use Rattle.aspif.specs.Grammar.{literalOf, integerOf, headOf}
-use Rattle.aspif.specs.Words.{literalWord, integerWord, literalWords, headWords, wordsAt, words, allWords, word, wordsFrom, listAt, behind, saysAt, after, linesFrom, linesOf, Within}
+use lib.Seq.{sets, sets-eq, length-sets, getD-drop, drop-drop, drop-append-seam}
+use Rattle.fields.specs.inner.Tape.{listed}
+use Rattle.aspif.specs.Statements.{Literal, positive, negated, Head, headAtoms, Body, normal, num, str, comp, elem, unguarded, guard, defines, collects, states, Theory, Statement, rule, output, theory, comment, Line, Rule, ruleIn, theoryIn}
+use Rattle.aspif.specs.Grammar.{literalOf, integerOf}
+use Rattle.aspif.specs.inner.Words.{ruleKind, outputKind, commentKind, numberKind, stringKind, compoundKind, elementKind, atomKind, guardedKind, literalWord, integerWord, literalWords, theoryWords, wordsOf, words, allWords, word, wordsFrom, listAt, behind, saysAt, after, linesFrom, linesOf}
+use Rattle.aspif.specs.inner.Kept.{AllSmall, Ahead}
+use Rattle.aspif.proofs.Coding.{kindOf, head-words, head-back}
 
 -- ---- a word says what it was written for
 
@@ -56,194 +59,155 @@ module _ (t : List ℕ) (p : ℕ) where
   drop-in : (i : ℕ) (l : List ℕ) → drop p t ≡ l → drop (p + i) t ≡ drop i l
   drop-in i l e = sym (drop-drop i p t) ∙ rw e
 
+-- words that stand from p on, one by one
+words-in : (t : List ℕ) (p : ℕ) (ws rest : List ℕ) → drop p t ≡ ws ++ rest → wordsFrom t p (length ws) ≡ ws
+unfolding wordsFrom
+words-in t p [] rest e = refl
+words-in t p (x ∷ ws) rest e =
+    rw (word-first t p x (ws ++ rest) e) (ap (λ l. x ∷ l) (words-in t (p + 1) ws rest (drop-in t p 1 (x ∷ ws ++ rest) e)))
+
 -- a list behind its count stands at q, and what follows it behind
-record Stands (t : List ℕ) (q : ℕ) (us rest : List ℕ) : Type 0 where
+record ListOn (t : List ℕ) (q : ℕ) (us rest : List ℕ) : Type 0 where
   count : word t q ≡ length us
   says : listAt t q ≡ us
   then : drop (behind t q) t ≡ rest
 
-stands : (t : List ℕ) (q : ℕ) (us rest : List ℕ) → drop q t ≡ length us ∷ us ++ rest → Stands t q us rest
-unfolding wordsFrom
-stands t q us rest e =
+list-on : (t : List ℕ) (q : ℕ) (us rest : List ℕ) → drop q t ≡ length us ∷ us ++ rest → ListOn t q us rest
+list-on t q us rest e =
     let n : word t q ≡ length us = word-first t q (length us) (us ++ rest) e in
     let d : drop (q + 1) t ≡ us ++ rest = drop-in t q 1 (length us ∷ us ++ rest) e in
-    record { count = n; says = rw (n, d, take-append-seam us rest); then = rw n (drop-in t (q + 1) (length us) (us ++ rest) d ∙ drop-append-seam us rest) }
+    record { count = n; says = rw n (words-in t (q + 1) us rest d); then = rw n (drop-in t (q + 1) (length us) (us ++ rest) d ∙ drop-append-seam us rest) }
 
--- ---- a line
+-- ---- what the words of a statement say
 
--- the line of the place l that says x stands at p, and what follows it behind
-record Here (t : List ℕ) (p l : ℕ) (x : Statement) (rest : List ℕ) : Type 0 where
-  place : word t (p + 1) ≡ l
-  says : saysAt t p ≡ x
-  ends : after t p ≡ p + length (wordsAt l x)
+module _ (t : List ℕ) (q : ℕ) (rest : List ℕ) where
+  -- its words stand from q on
+  abbrev At : Statement → Type 0
+  At x = drop q t ≡ wordsOf x ++ rest
+
+  says-rule : (h : Head) (b : Body) → At (rule h b) → saysAt t q ≡ rule h b
+  unfolding saysAt
+  says-rule h (normal ls) e =
+      let tail : List ℕ = literalWords ls ++ rest in
+      let all : List ℕ = ruleKind ∷ kindOf h ∷ length (headAtoms h) ∷ headAtoms h ++ tail in
+      let e″ : drop q t ≡ ruleKind ∷ kindOf h ∷ listed (headAtoms h) ++ literalWords ls ++ rest = e ∙ rw (head-words h) in
+      let e′ : drop q t ≡ all = e″ ∙ simp append-assoc in
+      let k : word t q ≡ ruleKind = word-first t q ruleKind _ e′ in
+      let c : word t (q + 1) ≡ kindOf h = word-in t q 1 all e′ in
+      let f = list-on t (q + 2) (headAtoms h) tail (drop-in t q 2 all e′) in
+      let g = list-on t (behind t (q + 2)) (map literalWord ls) rest (f .then) in
+      rw (k, c, f .says, g .says, head-back h, literals-back ls)
+
+  says-output : (bs : List ℕ) (ls : List Literal) → At (output bs ls) → saysAt t q ≡ output bs ls
+  unfolding saysAt
+  says-output bs ls e =
+      let tail : List ℕ = literalWords ls ++ rest in
+      let all : List ℕ = outputKind ∷ length bs ∷ bs ++ tail in
+      let e′ : drop q t ≡ all = e ∙ simp append-assoc in
+      let k : word t q ≡ outputKind = word-first t q outputKind _ e′ in
+      let f = list-on t (q + 1) bs tail (drop-in t q 1 all e′) in
+      let g = list-on t (behind t (q + 1)) (map literalWord ls) rest (f .then) in
+      rw (k, f .says, g .says, literals-back ls)
+
+  says-theory : (x : Theory) → At (theory x) → saysAt t q ≡ theory x
+  unfolding saysAt
+  says-theory (defines u (num w)) e =
+      let all : List ℕ = numberKind ∷ u ∷ integerWord w ∷ rest in
+      let k : word t q ≡ numberKind = word-first t q numberKind _ e in
+      let c : word t (q + 1) ≡ u = word-in t q 1 all e in
+      let d : word t (q + 2) ≡ integerWord w = word-in t q 2 all e in
+      rw (k, c, d, integer-back w)
+  says-theory (defines u (str bs)) e =
+      let all : List ℕ = stringKind ∷ u ∷ length bs ∷ bs ++ rest in
+      let k : word t q ≡ stringKind = word-first t q stringKind _ e in
+      let c : word t (q + 1) ≡ u = word-in t q 1 all e in
+      let f = list-on t (q + 2) bs rest (drop-in t q 2 all e) in
+      rw (k, c, f .says)
+  says-theory (defines u (comp w us)) e =
+      let all : List ℕ = compoundKind ∷ u ∷ integerWord w ∷ length us ∷ us ++ rest in
+      let k : word t q ≡ compoundKind = word-first t q compoundKind _ e in
+      let c : word t (q + 1) ≡ u = word-in t q 1 all e in
+      let d : word t (q + 2) ≡ integerWord w = word-in t q 2 all e in
+      let f = list-on t (q + 3) us rest (drop-in t q 3 all e) in
+      rw (k, c, d, f .says, integer-back w)
+  says-theory (collects v (elem us ls)) e =
+      let tail : List ℕ = literalWords ls ++ rest in
+      let all : List ℕ = elementKind ∷ v ∷ length us ∷ us ++ tail in
+      let e′ : drop q t ≡ all = e ∙ simp append-assoc in
+      let k : word t q ≡ elementKind = word-first t q elementKind _ e′ in
+      let c : word t (q + 1) ≡ v = word-in t q 1 all e′ in
+      let f = list-on t (q + 2) us tail (drop-in t q 2 all e′) in
+      let g = list-on t (behind t (q + 2)) (map literalWord ls) rest (f .then) in
+      rw (k, c, f .says, g .says, literals-back ls)
+  says-theory (states a p vs unguarded) e =
+      let all : List ℕ = atomKind ∷ a ∷ p ∷ length vs ∷ vs ++ rest in
+      let k : word t q ≡ atomKind = word-first t q atomKind _ e in
+      let c : word t (q + 1) ≡ a = word-in t q 1 all e in
+      let d : word t (q + 2) ≡ p = word-in t q 2 all e in
+      let f = list-on t (q + 3) vs rest (drop-in t q 3 all e) in
+      rw (k, c, d, f .says)
+  says-theory (states a p vs (guard g u)) e =
+      let tail : List ℕ = g ∷ u ∷ rest in
+      let all : List ℕ = guardedKind ∷ a ∷ p ∷ length vs ∷ vs ++ tail in
+      let e′ : drop q t ≡ all = e ∙ simp append-assoc in
+      let k : word t q ≡ guardedKind = word-first t q guardedKind _ e′ in
+      let c : word t (q + 1) ≡ a = word-in t q 1 all e′ in
+      let d : word t (q + 2) ≡ p = word-in t q 2 all e′ in
+      let f = list-on t (q + 3) vs tail (drop-in t q 3 all e′) in
+      let x : word t (behind t (q + 3)) ≡ g = word-first t (behind t (q + 3)) g (u ∷ rest) (f .then) in
+      let y : word t (behind t (q + 3) + 1) ≡ u = word-in t (behind t (q + 3)) 1 tail (f .then) in
+      rw (k, c, d, f .says, x, y)
+
+  says-comment : (bs : List ℕ) → At (comment bs) → saysAt t q ≡ comment bs
+  unfolding saysAt
+  says-comment bs e =
+      let all : List ℕ = commentKind ∷ length bs ∷ bs ++ rest in
+      let k : word t q ≡ commentKind = word-first t q commentKind _ e in
+      let f = list-on t (q + 1) bs rest (drop-in t q 1 all e) in
+      rw (k, f .says)
+
+  says-back : (x : Statement) → At x → saysAt t q ≡ x
+  says-back (rule h b) = says-rule h b
+  says-back (output bs ls) = says-output bs ls
+  says-back (theory x) = says-theory x
+  says-back (comment bs) = says-comment bs
+
+-- ---- lines
+
+-- the line x stands at p, and what follows it behind
+record Here (t : List ℕ) (p : ℕ) (x : Line) (rest : List ℕ) : Type 0 where
+  place : word t p ≡ x .place
+  says : saysAt t (p + 2) ≡ x .says
+  ends : after t p ≡ p + length (words x)
   then : drop (after t p) t ≡ rest
 
-here-then : (t : List ℕ) (p l : ℕ) (x : Statement) (rest : List ℕ) → drop p t ≡ wordsAt l x ++ rest
-    → word t (p + 1) ≡ l → saysAt t p ≡ x → after t p ≡ p + length (wordsAt l x) → Here t p l x rest
-here-then t p l x rest e a b c =
-    record { place = a; says = b; ends = c; then = rw c (drop-in t p (length (wordsAt l x)) (wordsAt l x ++ rest) e ∙ drop-append-seam (wordsAt l x) rest) }
+here : (t : List ℕ) (p : ℕ) (x : Line) (rest : List ℕ) → drop p t ≡ words x ++ rest → Here t p x rest
+here t p x rest e =
+    let ws : List ℕ = wordsOf (x .says) in
+    let all : List ℕ = x .place ∷ length ws ∷ ws ++ rest in
+    let f = list-on t (p + 1) ws rest (drop-in t p 1 all e) in
+    record { place = word-first t p (x .place) _ e; says = says-back t (p + 2) rest (x .says) (drop-in t p 2 all e); ends = rw (f .count) (omega arith); then = f .then }
 
--- the kind of a head, and its atoms
-kindOf : Head → ℕ
-kindOf empty = 0
-kindOf (single a) = 0
-kindOf (choice hs) = 1
+module _ (t rest : List ℕ) where
+  -- the words of lines that stand from p on say the lines
+  lines-at : (xs : List Line) (p : ℕ) → drop p t ≡ allWords xs ++ rest → linesFrom t p (length xs) ≡ xs
+  unfolding linesFrom
+  lines-at [] p e = refl
+  lines-at (x ∷ xs) p e =
+      let h = here t p x (allWords xs ++ rest) (e ∙ append-assoc (words x) (allWords xs) rest) in
+      rw (h .place, h .says, lines-at xs (after t p) (h .then))
 
-headAtoms : Head → List ℕ
-headAtoms empty = []
-headAtoms (single a) = a ∷ []
-headAtoms (choice hs) = hs
-
-head-words : (h : Head) → headWords h ≡ kindOf h ∷ listed (headAtoms h)
-unfolding kindOf headAtoms
-head-words empty = refl
-head-words (single a) = refl
-head-words (choice hs) = refl
-
-head-back : (h : Head) → headOf (kindOf h) (headAtoms h) ≡ h
-unfolding kindOf headAtoms
-head-back empty = refl
-head-back (single a) = refl
-head-back (choice hs) = refl
-
-module _ (t : List ℕ) (p l : ℕ) (rest : List ℕ) where
-  here-rule : (h : Head) (b : List Literal) → drop p t ≡ wordsAt l (rule h b) ++ rest → Here t p l (rule h b) rest
-  unfolding saysAt after
-  here-rule h b e =
-      let ls : List ℕ = map literalWord b in
-      let tail : List ℕ = length ls ∷ ls ++ rest in
-      let all : List ℕ = 1 ∷ l ∷ kindOf h ∷ length (headAtoms h) ∷ headAtoms h ++ tail in
-      let e″ : drop p t ≡ 1 ∷ l ∷ kindOf h ∷ listed (headAtoms h) ++ literalWords b ++ rest = e ∙ rw (head-words h) in
-      let e′ : drop p t ≡ all = e″ ∙ simp append-assoc in
-      let k : word t p ≡ 1 = word-first t p 1 _ e′ in
-      let c : word t (p + 2) ≡ kindOf h = word-in t p 2 all e′ in
-      let hs = stands t (p + 3) (headAtoms h) tail (drop-in t p 3 all e′) in
-      let bs = stands t (behind t (p + 3)) ls rest (hs .then) in
-      here-then t p l (rule h b) rest e (word-in t p 1 all e′)
-      (rw (k, c, hs .says, bs .says, head-back h, literals-back b))
-      (rw (k, bs .count, hs .count, head-words h) (omega (arith, length-append (headAtoms h) (length ls ∷ ls))))
-
-  here-output : (bs : List ℕ) (b : List Literal) → drop p t ≡ wordsAt l (output bs b) ++ rest → Here t p l (output bs b) rest
-  unfolding saysAt after
-  here-output bs b e =
-      let ls : List ℕ = map literalWord b in
-      let tail : List ℕ = length ls ∷ ls ++ rest in
-      let all : List ℕ = 4 ∷ l ∷ length bs ∷ bs ++ tail in
-      let e′ : drop p t ≡ all = e ∙ simp append-assoc in
-      let k : word t p ≡ 4 = word-first t p 4 _ e′ in
-      let f = stands t (p + 2) bs tail (drop-in t p 2 all e′) in
-      let g = stands t (behind t (p + 2)) ls rest (f .then) in
-      here-then t p l (output bs b) rest e (word-in t p 1 all e′)
-      (rw (k, f .says, g .says, literals-back b))
-      (rw (k, g .count, f .count) (omega (arith, length-append bs (length ls ∷ ls))))
-
-  here-numeric : (u : ℕ) (w : ℤ) → drop p t ≡ wordsAt l (numeric u w) ++ rest → Here t p l (numeric u w) rest
-  unfolding saysAt after
-  here-numeric u w e =
-      let all : List ℕ = 90 ∷ l ∷ u ∷ integerWord w ∷ rest in
-      let k : word t p ≡ 90 = word-first t p 90 _ e in
-      let c : word t (p + 2) ≡ u = word-in t p 2 all e in
-      let d : word t (p + 3) ≡ integerWord w = word-in t p 3 all e in
-      here-then t p l (numeric u w) rest e (word-in t p 1 all e) (rw (k, c, d, integer-back w)) (rw k)
-
-  here-string : (u : ℕ) (bs : List ℕ) → drop p t ≡ wordsAt l (string u bs) ++ rest → Here t p l (string u bs) rest
-  unfolding saysAt after
-  here-string u bs e =
-      let all : List ℕ = 91 ∷ l ∷ u ∷ length bs ∷ bs ++ rest in
-      let k : word t p ≡ 91 = word-first t p 91 _ e in
-      let c : word t (p + 2) ≡ u = word-in t p 2 all e in
-      let f = stands t (p + 3) bs rest (drop-in t p 3 all e) in
-      here-then t p l (string u bs) rest e (word-in t p 1 all e) (rw (k, c, f .says)) (rw (k, f .count) (omega arith))
-
-  here-compound : (u : ℕ) (w : ℤ) (us : List ℕ) → drop p t ≡ wordsAt l (compound u w us) ++ rest → Here t p l (compound u w us) rest
-  unfolding saysAt after
-  here-compound u w us e =
-      let all : List ℕ = 92 ∷ l ∷ u ∷ integerWord w ∷ length us ∷ us ++ rest in
-      let k : word t p ≡ 92 = word-first t p 92 _ e in
-      let c : word t (p + 2) ≡ u = word-in t p 2 all e in
-      let d : word t (p + 3) ≡ integerWord w = word-in t p 3 all e in
-      let f = stands t (p + 4) us rest (drop-in t p 4 all e) in
-      here-then t p l (compound u w us) rest e (word-in t p 1 all e)
-      (rw (k, c, d, f .says, integer-back w))
-      (rw (k, f .count) (omega arith))
-
-  here-element : (v : ℕ) (us : List ℕ) (b : List Literal) → drop p t ≡ wordsAt l (element v us b) ++ rest → Here t p l (element v us b) rest
-  unfolding saysAt after
-  here-element v us b e =
-      let ls : List ℕ = map literalWord b in
-      let tail : List ℕ = length ls ∷ ls ++ rest in
-      let all : List ℕ = 94 ∷ l ∷ v ∷ length us ∷ us ++ tail in
-      let e′ : drop p t ≡ all = e ∙ simp append-assoc in
-      let k : word t p ≡ 94 = word-first t p 94 _ e′ in
-      let c : word t (p + 2) ≡ v = word-in t p 2 all e′ in
-      let f = stands t (p + 3) us tail (drop-in t p 3 all e′) in
-      let g = stands t (behind t (p + 3)) ls rest (f .then) in
-      here-then t p l (element v us b) rest e (word-in t p 1 all e′)
-      (rw (k, c, f .says, g .says, literals-back b))
-      (rw (k, g .count, f .count) (omega (arith, length-append us (length ls ∷ ls))))
-
-  here-theory : (a f : ℕ) (vs : List ℕ) → drop p t ≡ wordsAt l (theory a f vs) ++ rest → Here t p l (theory a f vs) rest
-  unfolding saysAt after
-  here-theory a f vs e =
-      let all : List ℕ = 95 ∷ l ∷ a ∷ f ∷ length vs ∷ vs ++ rest in
-      let k : word t p ≡ 95 = word-first t p 95 _ e in
-      let c : word t (p + 2) ≡ a = word-in t p 2 all e in
-      let d : word t (p + 3) ≡ f = word-in t p 3 all e in
-      let g = stands t (p + 4) vs rest (drop-in t p 4 all e) in
-      here-then t p l (theory a f vs) rest e (word-in t p 1 all e) (rw (k, c, d, g .says)) (rw (k, g .count) (omega arith))
-
-  here-guarded : (a f : ℕ) (vs : List ℕ) (o u : ℕ) → drop p t ≡ wordsAt l (guarded a f vs o u) ++ rest → Here t p l (guarded a f vs o u) rest
-  unfolding saysAt after
-  here-guarded a f vs o u e =
-      let tail : List ℕ = o ∷ u ∷ rest in
-      let all : List ℕ = 96 ∷ l ∷ a ∷ f ∷ length vs ∷ vs ++ tail in
-      let e′ : drop p t ≡ all = e ∙ simp append-assoc in
-      let k : word t p ≡ 96 = word-first t p 96 _ e′ in
-      let c : word t (p + 2) ≡ a = word-in t p 2 all e′ in
-      let d : word t (p + 3) ≡ f = word-in t p 3 all e′ in
-      let g = stands t (p + 4) vs tail (drop-in t p 4 all e′) in
-      let x : word t (behind t (p + 4)) ≡ o = word-first t (behind t (p + 4)) o (u ∷ rest) (g .then) in
-      let y : word t (behind t (p + 4) + 1) ≡ u = word-in t (behind t (p + 4)) 1 tail (g .then) in
-      here-then t p l (guarded a f vs o u) rest e (word-in t p 1 all e′)
-      (rw (k, c, d, g .says, x, y))
-      (rw (k, g .count) (omega (arith, length-append vs (o ∷ u ∷ []))))
-
-  here-comment : (bs : List ℕ) → drop p t ≡ wordsAt l (comment bs) ++ rest → Here t p l (comment bs) rest
-  unfolding saysAt after
-  here-comment bs e =
-      let all : List ℕ = 10 ∷ l ∷ length bs ∷ bs ++ rest in
-      let k : word t p ≡ 10 = word-first t p 10 _ e in
-      let f = stands t (p + 2) bs rest (drop-in t p 2 all e) in
-      here-then t p l (comment bs) rest e (word-in t p 1 all e) (rw (k, f .says)) (rw (k, f .count) (omega arith))
-
-  here : (x : Statement) → drop p t ≡ wordsAt l x ++ rest → Here t p l x rest
-  here (rule h b) = here-rule h b
-  here (output bs b) = here-output bs b
-  here (numeric u w) = here-numeric u w
-  here (string u bs) = here-string u bs
-  here (compound u w us) = here-compound u w us
-  here (element v us b) = here-element v us b
-  here (theory a f vs) = here-theory a f vs
-  here (guarded a f vs o u) = here-guarded a f vs o u
-  here (comment bs) = here-comment bs
-
--- ---- all lines
-
--- the words of lines that stand from p on say the lines
-pub lines-at : (xs : List Line) (t : List ℕ) (p : ℕ) (rest : List ℕ) → drop p t ≡ allWords xs ++ rest → linesFrom t p (length xs) ≡ xs
-unfolding linesFrom
-lines-at [] t p rest e = refl
-lines-at (x ∷ xs) t p rest e =
-    let h = here t p (x .place) (allWords xs ++ rest) (x .says) (e ∙ append-assoc (words x) (allWords xs) rest) in
-    rw (h .place, h .says, lines-at xs t (after t p) rest (h .then))
-
--- lines whose words stand from p on, within the tape, stand within it
-pub within-at : (xs : List Line) (t : List ℕ) (p : ℕ) (rest : List ℕ) → drop p t ≡ allWords xs ++ rest → p + length (allWords xs) ≤ length t → Within t p (length xs)
-unfolding Within
-within-at [] t p rest e w = omega arith
-within-at (x ∷ xs) t p rest e w =
-    let h = here t p (x .place) (allWords xs ++ rest) (x .says) (e ∙ append-assoc (words x) (allWords xs) rest) in
-    (omega arith, within-at xs t (after t p) rest (h .then) (omega (arith, h .ends, length-append (words x) (allWords xs))))
+  -- lines whose words stand from p on, within the tape, are ahead of it
+  ahead-at : (xs : List Line) (p : ℕ) → drop p t ≡ allWords xs ++ rest → p + length (allWords xs) ≤ length t → AllSmall xs → Ahead t p (length xs)
+  unfolding Ahead
+  ahead-at [] p e w s = omega arith
+  ahead-at (x ∷ xs) p e w s =
+      let n = length-append (words x) (allWords xs) in
+      let d = e ∙ append-assoc (words x) (allWords xs) rest in
+      let h = here t p x (allWords xs ++ rest) d in (
+        record { stand = rw (h .place, h .says) (record { inside = omega arith; are = words-in t p (words x) (allWords xs ++ rest) d }); small = rw (h .says) (s .0) },
+        ahead-at xs (after t p) (h .then) (omega (arith, h .ends)) (s .1),
+      )
 
 -- the words stand at the start of the tape that they were written to
 at-start : (ws t : List ℕ) → length ws ≤ length t → drop 0 (sets t 0 ws) ≡ ws ++ drop (length ws) t
@@ -251,12 +215,27 @@ at-start ws t h =
     let e : 0 + length ws ≡ length ws = omega arith in
     rw (sets-eq ws t 0 (omega arith), e)
 
--- the lines written to a tape are the lines that it says
-pub lines-back : (xs : List Line) (t : List ℕ) → length (allWords xs) ≤ length t → linesOf (sets t 0 (allWords xs)) (length xs) ≡ xs
-lines-back xs t h = lines-at xs (sets t 0 (allWords xs)) 0 (drop (length (allWords xs)) t) (at-start (allWords xs) t h)
+module _ (xs : List Line) (t : List ℕ) (fits : length (allWords xs) ≤ length t) where
+  -- the lines written to a tape are the lines that it says
+  pub lines-back : linesOf (sets t 0 (allWords xs)) (length xs) ≡ xs
+  lines-back = lines-at (sets t 0 (allWords xs)) (drop (length (allWords xs)) t) xs 0 (at-start (allWords xs) t fits)
 
--- the lines written to a tape stand within it
-pub within-back : (xs : List Line) (t : List ℕ) → length (allWords xs) ≤ length t → Within (sets t 0 (allWords xs)) 0 (length xs)
-within-back xs t h =
-    within-at xs (sets t 0 (allWords xs)) 0 (drop (length (allWords xs)) t) (at-start (allWords xs) t h)
-    (omega (arith, length-sets t 0 (allWords xs)))
+  -- and can be walked
+  pub ahead-back : AllSmall xs → Ahead (sets t 0 (allWords xs)) 0 (length xs)
+  ahead-back = ahead-at (sets t 0 (allWords xs)) (drop (length (allWords xs)) t) xs 0 (at-start (allWords xs) t fits) (omega (arith, length-sets t 0 (allWords xs)))
+
+-- ---- a statement is the one that its view says
+
+pub rule-is : (s : Statement) (r : Rule) → ruleIn s ≡ some r → s ≡ rule (r .head) (r .body)
+rule-is (rule h b) r e =
+    let z : record { head = h; body = b } ≡ r = (cc) in
+    ap (λ (x : Rule). rule (x .head) (x .body)) z
+rule-is (output bs c) r e = let z : _≡_ {A = ℕ} 0 1 = (cc) in absurd (omega arith)
+rule-is (theory x) r e = let z : _≡_ {A = ℕ} 0 1 = (cc) in absurd (omega arith)
+rule-is (comment bs) r e = let z : _≡_ {A = ℕ} 0 1 = (cc) in absurd (omega arith)
+
+pub theory-is : (s : Statement) (x : Theory) → theoryIn s ≡ some x → s ≡ theory x
+theory-is (rule h b) x e = let z : _≡_ {A = ℕ} 0 1 = (cc) in absurd (omega arith)
+theory-is (output bs c) x e = let z : _≡_ {A = ℕ} 0 1 = (cc) in absurd (omega arith)
+theory-is (theory y) x e = let z : y ≡ x = (cc) in ap theory z
+theory-is (comment bs) x e = let z : _≡_ {A = ℕ} 0 1 = (cc) in absurd (omega arith)

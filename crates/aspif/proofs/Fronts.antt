@@ -8,11 +8,12 @@ use borrow.Author.Tests.{leb-true, leb-false, ltb-true, ltb-false, lt-ltb, le-lt
 use lib.Dec.{eqb, leb, ltb}
 use lib.ListN.{length, take, drop, length-take}
 use lib.Seq.{take-all, take-nil, getD-take}
+use Rattle.faults.specs.Limits.{lastAtom}
 use Rattle.basics.specs.Bools.{pick}
-use Rattle.fields.specs.Reading.{Reading, found, fault, bind}
+use Rattle.fields.specs.Reading.{Reading, found, fault, andThen}
 use Rattle.fields.specs.Fields.{upTo, isSeparator, byteAt, byte, lineEnd, textEnd, field, isNatural, value, natural}
 use Rattle.aspif.specs.Grammar.{lastLine}
-use Rattle.aspif.specs.Candidate.{sevenfold, atomAbove, ending, ascending, atoms, candidate}
+use Rattle.aspif.specs.Candidate.{sevenfold, atomAbove, ending, ascending, candidateLine, candidate}
 use Rattle.aspif.proofs.Candidates.{field-short, Above, none, some, above, onward}
 
 -- ---- a field
@@ -43,13 +44,13 @@ field-front s at m n e = rw (drop-front at m n s e) (upTo-front isSeparator m (d
 -- a field of more than four bytes is no atom
 above-long : (low : ℕ) (s : List ℕ) (at : ℕ) → 4 < length (field s at) → atomAbove low s at ≡ fault 7 at
 unfolding atomAbove natural
-above-long low s at h = go (isNatural (field s at)) refl (leb (value 0 (field s at)) 4096) refl
+above-long low s at h = go (isNatural (field s at)) refl (leb (value 0 (field s at)) lastAtom) refl
   where
-    go : (t : Bool) → isNatural (field s at) ≡ t → (u : Bool) → leb (value 0 (field s at)) 4096 ≡ u
-        → bind (sevenfold (pick t (pick u (found (value 0 (field s at)) (at + length (field s at))) (fault 7 at)) (fault 3 at)))
+    go : (t : Bool) → isNatural (field s at) ≡ t → (u : Bool) → leb (value 0 (field s at)) lastAtom ≡ u
+        → andThen (sevenfold (pick t (pick u (found (value 0 (field s at)) (at + length (field s at))) (fault 7 at)) (fault 3 at)))
         (λ v n. pick (leb v low) (fault 7 at) (found v n))
         ≡ fault 7 at
-    go true p true q = absurd (omega (arith, field-short (field s at) p (leb-true (value 0 (field s at)) 4096 q)))
+    go true p true q = absurd (omega (arith, field-short (field s at) p (leb-true (value 0 (field s at)) lastAtom q)))
     go true p false q = refl
     go false p u q = refl
 
@@ -89,8 +90,8 @@ unfolding ending lastLine lineEnd textEnd byte
 ending-front n s at h = rw (byte-front n s at (omega arith)) (go (eqb (byteAt s at) 10))
   where
     go : (t : Bool)
-        → sevenfold (bind (pick t (found (tt {0}) (at + 1)) (fault 3 at)) (λ v m. pick (ltb m (length (take n s))) (fault 3 m) (found (tt {0}) m)))
-        ≡ sevenfold (bind (pick t (found (tt {0}) (at + 1)) (fault 3 at)) (λ v m. pick (ltb m (length s)) (fault 3 m) (found (tt {0}) m)))
+        → sevenfold (andThen (pick t (found (tt {0}) (at + 1)) (fault 3 at)) (λ v m. pick (ltb m (length (take n s))) (fault 3 m) (found (tt {0}) m)))
+        ≡ sevenfold (andThen (pick t (found (tt {0}) (at + 1)) (fault 3 at)) (λ v m. pick (ltb m (length s)) (fault 3 m) (found (tt {0}) m)))
     go true = rw (ltb-front n s (at + 1) h)
     go false = refl
 
@@ -102,11 +103,11 @@ ascending-front n s (suc k) low at h =
     rw (above-front n s at low (omega arith)) (go (λ v m. ascending-front n s k v (m + 1)) (atomAbove low s at) (above low s at))
   where
     go : ((v m : ℕ) → m + 1 + 5 * k < n → ascending k v (take n s) (m + 1) ≡ ascending k v s (m + 1)) → (a : Reading ℕ) → Above low s at a
-        → bind a (onward k (take n s)) ≡ bind a (onward k s)
+        → andThen a (onward k (take n s)) ≡ andThen a (onward k s)
     go r _ none = refl
     go r _ (some {v} {n = m} i j l w) = rw (byte-front n s m (omega arith), r v m (omega arith), ending-front n s m (omega arith))
 
 -- a candidate and its front of 20,481 bytes or more are read alike
 pub candidate-front : (n : ℕ) (s : List ℕ) → 20480 < n → candidate (take n s) ≡ candidate s
-unfolding candidate atoms lineEnd byte
-candidate-front n s h = rw (byte-front n s 0 (omega arith), ending-front n s 0 (omega arith), ascending-front n s 4096 0 0 (omega arith))
+unfolding candidate candidateLine lineEnd byte
+candidate-front n s h = rw (byte-front n s 0 (omega arith), ending-front n s 0 (omega arith), ascending-front n s lastAtom 0 0 (omega arith))

@@ -1,12 +1,9 @@
 -- General laws.
-pub mod Always
 pub mod Coding
 pub mod Decoding
-pub mod Bounds
+pub mod Kept
 pub mod Counter
 pub mod Candidates
 pub mod Fronts
-pub mod Inside
-pub mod Selectors
 pub mod Turns
 pub mod Walking

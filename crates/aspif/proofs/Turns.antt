@@ -5,18 +5,21 @@ use mathlib.Core.Path.{_≡_, refl, sym}
 use mathlib.Core.List.{List, [], _∷_, _++_, append-assoc, append-nil}
 use native.Mathlib.Omega.{arith}
 use borrow.Author.Tests.{eq-eqb, ne-eqb}
-use lib.ListN.{length, length-append}
+use lib.ListN.{length, set, length-append}
 use lib.Seq.{sets}
 use Rattle.faults.specs.Answer.{got}
-use Rattle.fields.specs.Reading.{Reading, found, fault, bind}
+use Rattle.fields.specs.Reading.{Reading, found, fault, andThen}
+use Rattle.basics.proofs.Lists.{sets-before}
 use Rattle.fields.specs.Fields.{lineEnd, natural}
+use Rattle.fields.specs.inner.Tape.{listed}
 use Rattle.fields.proofs.Taping.{On, on-start, on-more}
 use Rattle.aspif.specs.Statements.{Statement, Line}
 use Rattle.aspif.specs.Grammar.{answer, statementOf, lineOf, lastLine, lines}
-use Rattle.aspif.specs.Words.{words, allWords, linesOf, Taped}
-use Rattle.aspif.specs.Values.{taped}
-use Rattle.aspif.proofs.Decoding.{lines-back, within-back}
-use Rattle.aspif.proofs.Bounds.{lines-small}
+use Rattle.aspif.specs.inner.Words.{words, allWords, linesOf}
+use Rattle.aspif.specs.inner.Kept.{Ahead}
+use Rattle.aspif.specs.inner.Values.{taped}
+use Rattle.aspif.proofs.Decoding.{lines-back, ahead-back}
+use Rattle.aspif.proofs.Kept.{Bytes, lines-small}
 
 -- ---- one turn: what `left` lines from a place on give, for each way through the loop's body
 
@@ -54,30 +57,40 @@ module _ (s : List ℕ) (at : ℕ) where
 
   pub line-goes : (left k m n p : ℕ) (x : Statement) → 0 < left → found k m ≡ natural 3 10 s at → (k ≡ 0 → ⊥)
       → statementOf k at s m ≡ found x n → found tt p ≡ lineEnd s n
-      → lines left s at ≡ bind (lines (left - 1) s p) (λ xs l. found (record { place = at; says = x } ∷ xs) l)
+      → lines left s at ≡ andThen (lines (left - 1) s p) (λ xs l. found (record { place = at; says = x } ∷ xs) l)
   unfolding lines lineOf
   line-goes zero k m n p x h e z d f = absurd (omega arith)
   line-goes (suc l) k m n p x h e z d f =
       let w : suc l - 1 ≡ l = omega arith in
       rw (w, ← e, ne-eqb _ _ z, d, ← f)
 
+-- ---- the words of a line: those of what it says, and in front of them its place and their count
+
+pub line-words : (u : List ℕ) (o place end : ℕ) (ws : List ℕ) {v w : List ℕ} → v ≡ sets u (o + 2) ws → end ≡ o + 2 + length ws
+    → w ≡ set (set v o place) (o + 1) (end - (o + 2)) → w ≡ sets u o (place ∷ listed ws)
+line-words u o place end ws e n f =
+    let k : end - (o + 2) ≡ length ws = omega arith in
+    let d : o + 2 ≡ suc (suc o) = omega arith in
+    let c : o + 1 ≡ suc o = omega arith in
+    rw (f, e, k, d, c, sets-before u (suc (suc o)) o place ws (omega arith), sets-before (set u o place) (suc (suc o)) (suc o) (length ws) ws (omega arith))
+
 -- ---- the loop
 
 -- n lines were to be read from `from` on, `left` are still, from `at` on; the tape t is u with the words of those done
 pub record Reached (s : List ℕ) (n : ℕ) (t : List ℕ) (from : ℕ) (u : List ℕ) (at o left : ℕ) : Type 0 where
   pub done : List Line
-  pub whole : lines n s from ≡ bind (lines left s at) (λ xs m. found (done ++ xs) m)
+  pub whole : lines n s from ≡ andThen (lines left s at) (λ xs m. found (done ++ xs) m)
   pub on : On t 0 (allWords done) u o
   pub count : length done + left ≡ n
-  pub room : o ≤ at
+  pub room : o < at
 
-bind-found : {A : Type 0} (a : Reading A) → a ≡ bind a (λ x n. found x n)
-bind-found (found x n) = refl
-bind-found (fault k p) = refl
+andThen-found : {A : Type 0} (a : Reading A) → a ≡ andThen a (λ x n. found x n)
+andThen-found (found x n) = refl
+andThen-found (fault k p) = refl
 
-pub reach-start : (s : List ℕ) (n : ℕ) (t : List ℕ) (from : ℕ) → Reached s n t from t from 0 n
-reach-start s n t from =
-    record { done = []; whole = bind-found (lines n s from); on = on-start t 0; count = omega arith; room = omega arith }
+pub reach-start : (s : List ℕ) (n : ℕ) (t : List ℕ) (from : ℕ) → 0 < from → Reached s n t from t from 0 n
+reach-start s n t from h =
+    record { done = []; whole = andThen-found (lines n s from); on = on-start t 0; count = omega arith; room = omega arith }
 
 all-snoc : (xs : List Line) (x : Line) → allWords (xs ++ (x ∷ [])) ≡ allWords xs ++ words x
 all-snoc [] x = append-nil (words x)
@@ -88,8 +101,8 @@ module _ (s : List ℕ) (n : ℕ) (t : List ℕ) (from : ℕ) (u : List ℕ) (at
   reach-fault k q e = rw (r .whole, e)
 
   pub reach-more : (x : Line) (at′ o′ left′ : ℕ) (u′ : List ℕ)
-      → lines left s at ≡ bind (lines left′ s at′) (λ xs l. found (x ∷ xs) l)
-      → u′ ≡ sets u o (words x) → o′ ≡ o + length (words x) → o′ ≤ at′ → suc left′ ≡ left → Reached s n t from u′ at′ o′ left′
+      → lines left s at ≡ andThen (lines left′ s at′) (λ xs l. found (x ∷ xs) l)
+      → u′ ≡ sets u o (words x) → o′ ≡ o + length (words x) → o′ < at′ → suc left′ ≡ left → Reached s n t from u′ at′ o′ left′
   reach-more x at′ o′ left′ u′ e p q h c =
       record {
         done = r .done ++ (x ∷ []);
@@ -99,7 +112,7 @@ module _ (s : List ℕ) (n : ℕ) (t : List ℕ) (from : ℕ) (u : List ℕ) (at
         room = h;
       }
     where
-      go : (a : Reading (List Line)) → bind (bind a (λ xs l. found (x ∷ xs) l)) (λ xs m. found (r .done ++ xs) m) ≡ bind a (λ xs m. found ((r .done ++ (x ∷ [])) ++ xs) m)
+      go : (a : Reading (List Line)) → andThen (andThen a (λ xs l. found (x ∷ xs) l)) (λ xs m. found (r .done ++ xs) m) ≡ andThen a (λ xs m. found ((r .done ++ (x ∷ [])) ++ xs) m)
       go (found xs l) = rw (append-assoc (r .done) (x ∷ []) xs)
       go (fault k p) = refl
 
@@ -121,10 +134,5 @@ module _ (s : List ℕ) (n : ℕ) (t : List ℕ) (from : ℕ) (u : List ℕ) (at
     pub end-lines : got (linesOf u (n - left)) ≡ answer (lines n s from)
     end-lines = rw (reach-end m e, r .on .tape, counted, lines-back (r .done) t enough)
 
-    pub end-walks : length s ≤ 60000 → Taped u (n - left)
-    end-walks l =
-        rw (r .on .tape, counted)
-        (record {
-          within = within-back (r .done) t enough;
-          small = rw (lines-back (r .done) t enough) (lines-small n s from (r .done) m l (sym (reach-end m e)));
-        })
+    pub end-walks : Bytes s → Ahead u 0 (n - left)
+    end-walks b = rw (r .on .tape, counted) (ahead-back (r .done) t enough (lines-small s n from (r .done) m b (sym (reach-end m e))))

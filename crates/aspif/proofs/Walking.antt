@@ -1,12 +1,17 @@
--- Where a line on the tape ends, by its kind; lines that stand within it. Assumes nothing.
+-- Lines on the tape, one by one. Assumes nothing.
 use Prim.Native.Nat.{ℕ, zero, suc, _+_, _-_, _≤_, _<_}
-use mathlib.Core.Path.{_≡_, sym, ap, _∙_}
-use mathlib.Core.List.{List}
+use mathlib.Core.Path.{_≡_, refl, sym, ap, _∙_}
+use mathlib.Core.List.{List, [], _∷_, _++_, map}
 use native.Mathlib.Omega.{arith}
 use native.Mathlib.Nat.{add-zero}
-use borrow.Author.Tests.{ne-eqb}
-use lib.ListN.{length, List·getD-eq-default}
-use Rattle.aspif.specs.Words.{word, behind, after, Within}
+use borrow.Author.Tests.{eq-eqb}
+use lib.ListN.{length, getD, length-append, length-map, List·getD-eq-default}
+use Rattle.fields.specs.inner.Tape.{listed}
+use Rattle.aspif.specs.Statements.{Head, headAtoms, rule, normal}
+use Rattle.aspif.specs.Grammar.{literalOf, headOf}
+use Rattle.aspif.specs.inner.Words.{ruleKind, words, wordsOf, headWords, literalWord, word, wordsFrom, listAt, behind, literalsAt, saysAt, lineAt, after, linesFrom}
+use Rattle.aspif.specs.inner.Kept.{AllSmall, Stand, LineOn, Ahead}
+use Rattle.aspif.proofs.Coding.{kindOf, head-words}
 
 -- a word past the end is 0
 pub word-out : (t : List ℕ) (p : ℕ) → length t ≤ p → 0 ≡ word t p
@@ -16,57 +21,88 @@ word-out t p h = sym (List·getD-eq-default t 0 h)
 pub first-word : (t : List ℕ) (p k : ℕ) → k ≡ word t (p + 0) → word t p ≡ k
 first-word t p k e = ap (word t) (sym (add-zero p)) ∙ sym e
 
--- ---- where a line ends
+-- as many words as were asked for
+pub words-length : (t : List ℕ) (p n : ℕ) → length (wordsFrom t p n) ≡ n
+unfolding wordsFrom
+words-length t p zero = refl
+words-length t p (suc n) = ap suc (words-length t (p + 1) n)
 
-module _ (t : List ℕ) (p k : ℕ) (ek : k ≡ word t (p + 0)) where
-  pub after-rule : k ≡ 1 → behind t (behind t (p + 3)) ≡ after t p
-  unfolding after
-  after-rule z = rw (first-word t p k ek, z)
+-- a word of those that stand from p on
+word-of : (t : List ℕ) (ws : List ℕ) (p i : ℕ) → wordsFrom t p (length ws) ≡ ws → i < length ws → word t (p + i) ≡ getD ws i 0
+unfolding wordsFrom
+word-of t [] p i e h = absurd (omega arith)
+word-of t (x ∷ ws) p zero e h =
+    let z : word t p ≡ x = (cc) in
+    rw (add-zero p) z
+word-of t (x ∷ ws) p (suc i) e h =
+    let z : wordsFrom t (p + 1) (length ws) ≡ ws = (cc) in
+    let d : p + suc i ≡ p + 1 + i = omega arith in
+    rw d (word-of t ws (p + 1) i z (omega arith))
 
-  pub after-output : k ≡ 4 → behind t (behind t (p + 2)) ≡ after t p
-  unfolding after
-  after-output z = rw (first-word t p k ek, z)
+-- ---- the first of n lines, and those behind it
 
-  pub after-number : k ≡ 90 → p + 4 ≡ after t p
-  unfolding after
-  after-number z = rw (first-word t p k ek, z)
+pub ahead-starts : (t : List ℕ) (p n : ℕ) → Ahead t p n → p ≤ length t
+unfolding Ahead
+ahead-starts t p zero a = a
+ahead-starts t p (suc n) a = omega (arith, a .0 .stand .inside)
 
-  pub after-string : k ≡ 91 → behind t (p + 3) ≡ after t p
-  unfolding after
-  after-string z = rw (first-word t p k ek, z)
+module _ (t : List ℕ) (p n : ℕ) (h : 0 < n) where
+  pub ahead-next : Ahead t p n → LineOn t p × Ahead t (after t p) (n - 1)
+  unfolding Ahead
+  ahead-next = go n h
+    where
+      go : (n : ℕ) → 0 < n → Ahead t p n → LineOn t p × Ahead t (after t p) (n - 1)
+      go zero h a = absurd (omega arith)
+      go (suc k) h a = let d : suc k - 1 ≡ k = omega arith in rw d a
 
-  pub after-compound : k ≡ 92 → behind t (p + 4) ≡ after t p
-  unfolding after
-  after-compound z = rw (first-word t p k ek, z)
+  pub lines-next : linesFrom t p n ≡ lineAt t p ∷ linesFrom t (after t p) (n - 1)
+  unfolding linesFrom
+  lines-next = go n h
+    where
+      go : (n : ℕ) → 0 < n → linesFrom t p n ≡ lineAt t p ∷ linesFrom t (after t p) (n - 1)
+      go zero h = absurd (omega arith)
+      go (suc k) h = let d : suc k - 1 ≡ k = omega arith in rw d
 
-  pub after-element : k ≡ 94 → behind t (behind t (p + 3)) ≡ after t p
-  unfolding after
-  after-element z = rw (first-word t p k ek, z)
+-- lines that stand on the tape keep to their bounds
+pub ahead-small : (t : List ℕ) (p n : ℕ) → Ahead t p n → AllSmall (linesFrom t p n)
+unfolding Ahead linesFrom
+ahead-small t p zero a = tt
+ahead-small t p (suc n) a = (a .0 .small, ahead-small t (after t p) n (a .1))
 
-  pub after-theory : k ≡ 95 → behind t (p + 4) ≡ after t p
-  unfolding after
-  after-theory z = rw (first-word t p k ek, z)
+-- ---- a line
 
-  pub after-guarded : k ≡ 96 → behind t (p + 4) + 2 ≡ after t p
-  unfolding after
-  after-guarded z = rw (first-word t p k ek, z)
+module _ {t : List ℕ} {p : ℕ} (l : LineOn t p) where
+  -- its second word counts the words behind it
+  size-is : word t (p + 1) ≡ length (wordsOf (saysAt t (p + 2)))
+  size-is = word-of t (words (lineAt t p)) p 1 (l .stand .are) (omega arith)
 
-  pub after-comment : (k ≡ 1 → ⊥) → (k ≡ 4 → ⊥) → (k ≡ 90 → ⊥) → (k ≡ 91 → ⊥) → (k ≡ 92 → ⊥) → (k ≡ 94 → ⊥) → (k ≡ 95 → ⊥) → (k ≡ 96 → ⊥)
-      → behind t (p + 2) ≡ after t p
-  unfolding after
-  after-comment a b c d e f g h =
-      rw (first-word t p k ek, ne-eqb k 1 a, ne-eqb k 4 b, ne-eqb k 90 c, ne-eqb k 91 d, ne-eqb k 92 e, ne-eqb k 94 f, ne-eqb k 95 g, ne-eqb k 96 h)
+  -- so the next line stands within the tape or at its end
+  pub after-inside : after t p ≤ length t
+  after-inside = omega (arith, size-is, l .stand .inside)
 
--- ---- lines that stand within the tape
+-- ---- a rule
 
--- they begin within it
-pub within-starts : (t : List ℕ) (p n : ℕ) → Within t p n → p ≤ length t
-unfolding Within
-within-starts t p zero w = w
-within-starts t p (suc n) w = w .0
+module _ (t : List ℕ) (q : ℕ) where
+  -- kind 1 is that of a rule
+  pub rule-says : word t q ≡ ruleKind → saysAt t q ≡ rule (headOf (word t (q + 1)) (listAt t (q + 2))) (normal (literalsAt t (behind t (q + 2))))
+  unfolding saysAt
+  rule-says e = rw (eq-eqb (word t q) ruleKind e)
 
--- behind the first of them the others do
-pub within-next : (t : List ℕ) (p n : ℕ) → 0 < n → Within t p n → Within t (after t p) (n - 1)
-unfolding Within
-within-next t p zero h w = absurd (omega arith)
-within-next t p (suc n) h w = let d : suc n - 1 ≡ n = omega arith in rw d (w .1)
+-- the words of a rule: how many heads it has, and how far it goes
+rule-room : (t : List ℕ) (p a n : ℕ) (h : Head) (ls : List ℕ) → Stand (a ∷ n ∷ ruleKind ∷ headWords h ++ listed ls) t p
+    → (word t (p + 4) ≡ length (headAtoms h)) × (p + 6 + length (headAtoms h) + length ls ≤ length t)
+rule-room t p a n h ls s =
+    let ws : List ℕ = a ∷ n ∷ ruleKind ∷ kindOf h ∷ length (headAtoms h) ∷ headAtoms h ++ listed ls in
+    let s′ : Stand ws t p = rw (head-words h) at s in
+    (word-of t ws p 4 (s′ .are) (omega arith), omega (arith, s′ .inside, length-append (headAtoms h) (listed ls)))
+
+-- its lists stand within the tape
+pub rule-inside : {t : List ℕ} {p : ℕ} → LineOn t p → word t (p + 2) ≡ ruleKind → behind t (behind t (p + 2 + 2)) ≤ length t
+rule-inside {t} {p} l e =
+    let h = headOf (word t (p + 2 + 1)) (listAt t (p + 2 + 2)) in
+    let ls = literalsAt t (behind t (p + 2 + 2)) in
+    let r = rule-room t p _ _ h (map literalWord ls) (rw (rule-says t (p + 2) e) at (l .stand)) in
+    let n : word t (p + 2 + 2) ≡ length (headAtoms h) = ap (word t) (omega arith) ∙ r .0 in
+    let m : length (map literalWord ls) ≡ word t (behind t (p + 2 + 2)) =
+    length-map ls literalWord ∙ length-map (listAt t (behind t (p + 2 + 2))) literalOf ∙ words-length t _ _ in
+    omega (arith, r .1, n, m)

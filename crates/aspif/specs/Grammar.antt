@@ -1,4 +1,4 @@
--- The grammar of a plan, one definition a sentence of document 01, 'Reading the text'. It can be run.
+-- Believed: the grammar of a plan, one definition a sentence of document 01, 'Reading the text'. It can be run.
 -- A reader is given the place of the line's first byte where that is the place of a refusal. Assumes nothing.
 use Prim.Native.Nat.{ℕ, zero, suc, _+_, _/_, _%_}
 use mathlib.Core.List.{List, [], _∷_, map}
@@ -6,11 +6,12 @@ use lib.ListN.{length}
 use lib.Dec.{eqb}
 use lib.IntN.{ℤ, pos, negℤ}
 use Rattle.basics.specs.Bools.{pick}
+use Rattle.faults.specs.Limits.{lastTerm, mostCount, largestNumber}
 use Rattle.faults.specs.Answer.{Answer, got, refused}
 use Rattle.fields.specs.declared.Item.the-variants as of
-use Rattle.fields.specs.Reading.{Reading, found, fault, Reader, bind, _>>=_, _>>_, pure}
-use Rattle.fields.specs.Fields.{byteAt, byte, bytes, lineEnd, textEnd, natural, nextNatural, nextInteger, nextAtom, nextTerm, nextElement, counted, string, rest}
-use Rattle.aspif.specs.Statements.{Literal, positive, negated, Head, empty, single, choice, Statement, rule, output, numeric, string as stringTerm, compound, element, theory, guarded, comment, Line}
+use Rattle.fields.specs.Reading.{Reading, found, fault, Reader, andThen, _>>=_, _>>_, pure}
+use Rattle.fields.specs.Fields.{space, byteAt, byte, bytes, lineEnd, textEnd, natural, nextNatural, nextInteger, nextAtom, nextTerm, nextElement, counted, string, rest}
+use Rattle.aspif.specs.Statements.{Literal, positive, negated, Head, empty, single, choice, Body, normal, num, str, comp, elem, unguarded, guard, defines, collects, states, Statement, rule, output, theory, comment, Line}
 
 -- ---- a literal and an integer are read as one number: 2 v, and 2 v + 1 after a minus
 
@@ -32,28 +33,29 @@ headOf kind hs = pick (eqb kind 0) (plainHead hs) (choice hs)
 
 -- the atoms of a head: in a plain one, a count of 2 or more is not carried
 unfoldable pub heads : (kind : ℕ) → Reader (List ℕ)
-heads kind = counted of.Atom (pick (eqb kind 0) 4 5) (pick (eqb kind 0) 1 4096)
+heads kind = counted of.Atom (pick (eqb kind 0) 4 5) (pick (eqb kind 0) 1 mostCount)
 
 -- a normal body; a weight body, kind 1, is not carried
 unfoldable pub bodyKind : Reader Unit
-bodyKind s at = bind (nextNatural 3 1 s at) (λ k n. pick (eqb k 0) (found tt n) (fault 4 (at + 1)))
+bodyKind s at = andThen (nextNatural 3 1 s at) (λ k n. pick (eqb k 0) (found tt n) (fault 4 (at + 1)))
 
 unfoldable pub literals : Reader (List ℕ)
-literals = counted of.Literal 5 4096
+literals = counted of.Literal 5 mostCount
 
 -- `0`, a count, that many literals
-unfoldable pub body : Reader (List ℕ)
+unfoldable pub body : Reader Body
 body = do
   bodyKind
-  literals
+  ls ← literals
+  pure (normal (map literalOf ls))
 
 -- the rest of `1`, head, body
 unfoldable pub ruleLine : Reader Statement
 ruleLine = do
   kind ← nextNatural 3 1
   hs ← heads kind
-  ls ← body
-  pure (rule (headOf kind hs) (map literalOf ls))
+  b ← body
+  pure (rule (headOf kind hs) b)
 
 -- the rest of `4`, length, string, count, literals
 unfoldable pub outputLine : Reader Statement
@@ -66,31 +68,31 @@ outputLine = do
 unfoldable pub numericLine : Reader Statement
 numericLine = do
   u ← nextTerm
-  w ← nextInteger 1000000 1000000
-  pure (numeric u (integerOf w))
+  w ← nextInteger largestNumber largestNumber
+  pure (theory (defines u (num (integerOf w))))
 
 -- the rest of `9 1 u n s`
 unfoldable pub stringLine : Reader Statement
 stringLine = do
   u ← nextTerm
   bs ← string
-  pure (stringTerm u bs)
+  pure (theory (defines u (str bs)))
 
 -- the rest of `9 2 u t n u1..un`: t is -1, -2, -3 or a term number
 unfoldable pub compoundLine : Reader Statement
 compoundLine = do
   u ← nextTerm
-  t ← nextInteger 3 1023
-  us ← counted of.Term 5 4096
-  pure (compound u (integerOf t) us)
+  t ← nextInteger 3 lastTerm
+  us ← counted of.Term 5 mostCount
+  pure (theory (defines u (comp (integerOf t) us)))
 
 -- the rest of `9 4 v n u1..un m l1..lm`
 unfoldable pub elementLine : Reader Statement
 elementLine = do
   v ← nextElement
-  us ← counted of.Term 5 4096
+  us ← counted of.Term 5 mostCount
   ls ← literals
-  pure (element v us (map literalOf ls))
+  pure (theory (collects v (elem us (map literalOf ls))))
 
 -- `a p n v1..vn` of a theory atom: atom 0, a directive, is not carried
 pub record Front : Type 0 where
@@ -102,14 +104,14 @@ unfoldable pub front : Reader Front
 front = do
   a ← nextAtom 4
   p ← nextTerm
-  vs ← counted of.Element 5 4096
+  vs ← counted of.Element 5 mostCount
   pure (record { atom = a; name = p; elements = vs })
 
 -- the rest of `9 5 a p n v1..vn`
 unfoldable pub theoryLine : Reader Statement
 theoryLine = do
   f ← front
-  pure (theory (f .atom) (f .name) (f .elements))
+  pure (theory (states (f .atom) (f .name) (f .elements) unguarded))
 
 -- the rest of `9 6 a p n v1..vn g u`
 unfoldable pub guardedLine : Reader Statement
@@ -117,35 +119,30 @@ guardedLine = do
   f ← front
   g ← nextTerm
   u ← nextTerm
-  pure (guarded (f .atom) (f .name) (f .elements) g u)
+  pure (theory (states (f .atom) (f .name) (f .elements) (guard g u)))
 
 -- the rest of `10`, a space, and anything up to the line end
 unfoldable pub commentLine : Reader Statement
 commentLine = do
-  byte 32
+  byte space
   bs ← rest
   pure (comment bs)
 
 -- ---- selectors: a number that the standard doesn't list is refused by 3
 
--- the type of a theory statement: 0, 1, 2, 4, 5, 6
-unfoldable pub theoryType : Reader ℕ
-theoryType s at = bind (nextNatural 3 6 s at) (λ k n. pick (eqb k 3) (fault 3 (at + 1)) (found k n))
-
--- a theory statement of the type k
-unfoldable pub theoryOf : (k : ℕ) → Reader Statement
-theoryOf k =
+-- a theory statement of the type k, which stands at the place: 0, 1, 2, 4, 5 or 6
+unfoldable pub theoryOf : (k place : ℕ) → Reader Statement
+theoryOf k place =
     pick (eqb k 0) numericLine
     (pick (eqb k 1) stringLine
     (pick (eqb k 2) compoundLine
     (pick (eqb k 4) elementLine
-    (pick (eqb k 5) theoryLine guardedLine))))
+    (pick (eqb k 5) theoryLine
+    (pick (eqb k 6) guardedLine (λ s at. fault 3 place))))))
 
 -- the rest of `9`, theory type, ..
 unfoldable pub theoryPart : Reader Statement
-theoryPart = do
-  k ← theoryType
-  theoryOf k
+theoryPart s at = andThen (nextNatural 3 6 s at) (λ k n. theoryOf k (at + 1) s n)
 
 -- a statement of the type k: 2, 3 and 5 to 8 are not carried
 unfoldable pub statementOf : (k place : ℕ) → Reader Statement
@@ -174,14 +171,14 @@ lastLine = do
 unfoldable pub lines : (n : ℕ) → Reader (List Line)
 lines zero s at = fault 3 at
 lines (suc n) s at =
-    bind (natural 3 10 s at) (λ k m.
+    andThen (natural 3 10 s at) (λ k m.
     (pick (eqb k 0)
     (lastLine >> pure [])
     (lineOf k at >>= (λ x. lines n >>= (λ xs. pure (x ∷ xs))))) s m)
 
 -- the end of the first line: a tag, after a space, is not carried
 unfoldable pub noTag : Reader Unit
-noTag s at = pick (eqb (byteAt s at) 32) (fault 4 at) (lineEnd s at)
+noTag s at = pick (eqb (byteAt s at) space) (fault 4 at) (lineEnd s at)
 
 -- `asp 1 0 0`
 unfoldable pub firstLine : Reader Unit
@@ -191,7 +188,7 @@ firstLine = do
 
 -- a text has at most as many lines as bytes
 unfoldable pub plan : Reader (List Line)
-plan s at = bind (firstLine s at) (λ u n. lines (length s) s n)
+plan s at = andThen (firstLine s at) (λ u n. lines (length s) s n)
 
 abbrev pub answer : {A : Type 0} → Reading A → Answer A
 answer (found x n) = got x

@@ -1,7 +1,10 @@
--- What the lines of a plan say: document 01, 'Reading the text'. Assumes nothing.
+-- Believed: what the lines of a plan say: document 01, 'Reading the text'. Assumes nothing.
 use Prim.Native.Nat.{ℕ}
-use mathlib.Core.List.{List}
+use mathlib.Core.Bool.{Bool}
+use mathlib.Core.List.{List, [], _∷_, _++_, map}
+use mathlib.Core.Option.{Option, some, none}
 use lib.IntN.{ℤ}
+use Rattle.basics.specs.Lists.{among}
 
 -- an atom, or an atom under default negation
 pub data Literal : Type 0 where
@@ -13,19 +16,89 @@ pub data Head : Type 0 where
   single : (atom : ℕ) → Head
   choice : (atoms : List ℕ) → Head
 
--- atoms, terms and elements by their numbers, strings by their bytes; a compound's t is a term number, or -1, -2, -3 (tuple, set, list)
+-- the atoms of a head
+abbrev pub headAtoms : Head → List ℕ
+headAtoms empty = []
+headAtoms (single a) = a ∷ []
+headAtoms (choice hs) = hs
+
+-- a stands in a head
+abbrev pub inHead : ℕ → Head → Bool
+inHead a h = among a (headAtoms h)
+
+-- a normal body
+pub data Body : Type 0 where
+  normal : (literals : List Literal) → Body
+
+-- what a term number stands for; a compound's t is a term number, or -1, -2, -3 (tuple, set, list)
+pub data Term : Type 0 where
+  num : ℤ → Term
+  str : (bytes : List ℕ) → Term
+  comp : (t : ℤ) → (arguments : List ℕ) → Term
+
+-- what an element number stands for
+pub data Element : Type 0 where
+  elem : (terms : List ℕ) → (condition : List Literal) → Element
+
+-- the operator and the bound of a theory atom, where it has them
+pub data Guard : Type 0 where
+  unguarded : Guard
+  guard : (operator bound : ℕ) → Guard
+
+-- a theory statement defines a term, or collects an element, or states a theory atom
+pub data Theory : Type 0 where
+  defines : (term : ℕ) → Term → Theory
+  collects : (element : ℕ) → Element → Theory
+  states : (atom name : ℕ) → (elements : List ℕ) → Guard → Theory
+
+-- atoms, terms and elements by their numbers, strings by their bytes
 pub data Statement : Type 0 where
-  rule : Head → (body : List Literal) → Statement
+  rule : Head → Body → Statement
   output : (bytes : List ℕ) → (condition : List Literal) → Statement
-  numeric : (term : ℕ) → ℤ → Statement
-  string : (term : ℕ) → (bytes : List ℕ) → Statement
-  compound : (term : ℕ) → (t : ℤ) → (arguments : List ℕ) → Statement
-  element : (element : ℕ) → (terms : List ℕ) → (condition : List Literal) → Statement
-  theory : (atom name : ℕ) → (elements : List ℕ) → Statement
-  guarded : (atom name : ℕ) → (elements : List ℕ) → (operator bound : ℕ) → Statement
+  theory : Theory → Statement
   comment : (bytes : List ℕ) → Statement
 
 -- a line: the place of its first byte, and what it says
 pub record Line : Type 0 where
   pub place : ℕ
   pub says : Statement
+
+-- ---- the atoms that stand in a statement
+
+abbrev pub atomOf : Literal → ℕ
+atomOf (positive a) = a
+atomOf (negated a) = a
+
+abbrev pub literalAtoms : List Literal → List ℕ
+literalAtoms ls = map atomOf ls
+
+abbrev pub bodyAtoms : Body → List ℕ
+bodyAtoms (normal ls) = literalAtoms ls
+
+-- those of a head and a body, of a condition, and of a theory atom
+abbrev pub statementAtoms : Statement → List ℕ
+statementAtoms (rule h b) = headAtoms h ++ bodyAtoms b
+statementAtoms (output bs c) = literalAtoms c
+statementAtoms (theory (defines u t)) = []
+statementAtoms (theory (collects v (elem us c))) = literalAtoms c
+statementAtoms (theory (states a p vs g)) = a ∷ []
+statementAtoms (comment bs) = []
+
+-- ---- a statement as one of a kind, or none
+
+-- a head and a body
+pub record Rule : Type 0 where
+  pub head : Head
+  pub body : Body
+
+abbrev pub ruleIn : Statement → Option Rule
+ruleIn (rule h b) = some (record { head = h; body = b })
+ruleIn (output bs c) = none
+ruleIn (theory x) = none
+ruleIn (comment bs) = none
+
+abbrev pub theoryIn : Statement → Option Theory
+theoryIn (rule h b) = none
+theoryIn (output bs c) = none
+theoryIn (theory x) = some x
+theoryIn (comment bs) = none

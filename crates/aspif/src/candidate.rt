@@ -1,16 +1,25 @@
 // The candidate: from bytes into a bitmap, or 7.
 ghost use mathlib.Core.Path.{_≡_};
-ghost use Rattle.fields.specs.Values.{asAtom, asPassed};
+ghost use Rattle.fields.specs.inner.Values.{asAtom, asPassed};
 ghost use Rattle.aspif.specs.Grammar.{answer};
-ghost use Rattle.aspif.specs.Candidate.{atomAbove, ending, ascending, candidate, Blank};
-ghost use Rattle.aspif.specs.Values.{asMarked, refusalOfMarked};
+ghost use mathlib.Core.Bool.{false};
+ghost use mathlib.Core.List.{List};
+ghost use Prim.Native.Nat.{ℕ};
+ghost use Rattle.faults.specs.Answer.{isGot, refused};
+ghost use Rattle.faults.specs.Limits.{lastAtom};
+ghost use Rattle.faults.specs.Values.{number};
+ghost use Rattle.aspif.specs.Candidate.{atomAbove, ending, ascending, candidate};
+ghost use Rattle.aspif.specs.inner.Bitmap.{Blank};
+ghost use Rattle.aspif.specs.inner.Values.{asMarked};
 use crate::lines::last_line;
 use faults::AtomNo;
 use faults::Kind;
+use faults::LAST_ATOM;
 use faults::Refusal;
 use fields::AtomField;
 use fields::Cursor;
 use fields::Passed;
+use fields::SPACE;
 use fields::WordField;
 
 // What marking the atoms gives.
@@ -22,7 +31,8 @@ pub enum Marked {
 impl Marked {
     // The refusal of an answer that is one.
     pub fn refusal(self) -> Refusal
-        ensures { λ r. ⌜ r ≡ refusalOfMarked self ⌝ }
+        requires { ⌜ ((x : List ℕ) → isGot (asMarked self x) ≡ false) ⌝ }
+        ensures { λ r. ⌜ ((x : List ℕ) → asMarked self x ≡ refused (number (r .kind)) (r .place)) ⌝ }
     {
         match self {
             Marked::Done => Refusal {
@@ -45,15 +55,15 @@ fn seven(place: usize) -> Refusal
 }
 
 // An atom to 4,096 that is above `low`.
-fn atom_above(c: Cursor, s: &[u8], low: u32) -> AtomField
-    ensures { λ r. ⌜ asAtom r ≡ atomAbove low (now (s .entry)) (c .at) ⌝ }
+fn atom_above(c: Cursor, s: &[u8], low: AtomNo) -> AtomField
+    ensures { λ r. ⌜ asAtom r ≡ atomAbove (low .0) (now (s .entry)) (c .at) ⌝ }
 {
     let at = c.at;
-    let a = c.natural(s, 4096, Kind::Candidate);
+    let a = c.natural(s, LAST_ATOM, Kind::Candidate);
     let WordField::Got(v, n) = a else {
         return AtomField::Refused(seven(at));
     };
-    if v <= low {
+    if v <= low.0 {
         return AtomField::Refused(seven(at));
     }
     AtomField::Got(AtomNo(v), n)
@@ -75,18 +85,18 @@ fn ending(c: Cursor, s: &[u8]) -> Passed
 // Marks the atoms from the cursor on.
 fn ascending(c: Cursor, s: &[u8], x: &mut [u8]) -> Marked
     requires { ⌜ Blank (now x) ⌝ }
-    ensures { λ r. ⌜ asMarked r (now (x .exit)) ≡ answer (ascending 4096 0 (now (s .entry)) (c .at)) ⌝ }
+    ensures { λ r. ⌜ asMarked r (now (x .exit)) ≡ answer (ascending lastAtom 0 (now (s .entry)) (c .at)) ⌝ }
 {
     let mut d = c;
-    let mut low: u32 = 0;
-    while low < 4096 {
+    let mut low = AtomNo(0);
+    while low.0 < LAST_ATOM {
         let a = atom_above(d, s, low);
         let AtomField::Got(v, e) = a else {
             return Marked::Refused(a.refusal());
         };
         let i = v.0 as usize;
         x[i] = 1;
-        let b = e.byte(s, 32);
+        let b = e.byte(s, SPACE);
         let Passed::Got(next) = b else {
             let z = ending(e, s);
             let Passed::Got(_) = z else {
@@ -95,7 +105,7 @@ fn ascending(c: Cursor, s: &[u8], x: &mut [u8]) -> Marked
             return Marked::Done;
         };
         d = next;
-        low = v.0;
+        low = v;
     }
     let place = d.at;
     Marked::Refused(seven(place))

@@ -5,8 +5,8 @@ ghost use lib.ListN.{length};
 ghost use Rattle.faults.specs.Answer.{mapped};
 ghost use Rattle.faults.specs.Values.{asStep};
 ghost use Rattle.aspif.specs.Grammar.{statements};
-ghost use Rattle.aspif.specs.Words.{linesOf};
-ghost use Rattle.aspif.specs.Values.{asTape, taped, tapedIf};
+ghost use Rattle.aspif.specs.inner.Words.{linesOf};
+ghost use Rattle.aspif.specs.inner.Values.{asTape, taped, tapedIf};
 use faults::Step;
 use fields::Cursor;
 use fields::Passed;
@@ -14,6 +14,7 @@ use lines::first_line;
 use lines::lines;
 
 pub mod candidate;
+pub mod kinds;
 mod lines;
 mod rules;
 mod tape;
@@ -22,7 +23,7 @@ pub mod walk;
 
 // What the text says, on the tape from its start on, and how many lines that is; or 3, 4 or 5.
 pub fn read(s: &[u8], tape: &mut [u32]) -> Step
-    requires { ⌜ (length (now s) ≤ length (now tape)) × (length (now s) ≤ 60000) ⌝ }
+    requires { ⌜ (length (now s) ≤ length (now tape)) × (length (now s) ≤ 65536) ⌝ }
     ensures { λ r. ⌜ asTape r (now (tape .exit)) ≡ taped (now (tape .entry)) (statements (now (s .entry))) ⌝ }
     ensures { λ r. ⌜ mapped (linesOf (now (tape .exit))) (asStep r) ≡ statements (now (s .entry)) ⌝ }
     ensures { λ r. ⌜ tapedIf r (now (tape .exit)) ⌝ }

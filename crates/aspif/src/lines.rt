@@ -4,20 +4,22 @@ ghost use Prim.Native.Nat.{_+_, _≤_, _<_};
 ghost use lib.ListN.{length};
 ghost use Rattle.faults.specs.Answer.{mapped};
 ghost use Rattle.faults.specs.Values.{asStep};
-ghost use Rattle.fields.specs.Tape.{onTape};
-ghost use Rattle.fields.specs.Values.{asPassed, asWrote, roomy};
+ghost use Rattle.fields.specs.inner.Tape.{onTape};
+ghost use Rattle.fields.specs.inner.Values.{asPassed, asWrote, roomy};
 ghost use Rattle.aspif.specs.Grammar.{answer, firstLine, lastLine, statementOf, lines};
-ghost use Rattle.aspif.specs.Words.{wordsAt, linesOf};
-ghost use Rattle.aspif.specs.Values.{asTape, taped, tapedIf};
+ghost use Rattle.aspif.specs.inner.Words.{wordsOf, linesOf};
+ghost use Rattle.aspif.specs.inner.Values.{asTape, taped, tapedIf};
 use crate::rules::comment_line;
 use crate::rules::output_line;
 use crate::rules::rule_line;
+use crate::tape::head_line;
 use crate::theory::theory_part;
 use faults::Kind;
 use faults::Refusal;
 use faults::Step;
 use fields::Cursor;
 use fields::Passed;
+use fields::SPACE;
 use fields::WordField;
 use fields::Wrote;
 
@@ -29,7 +31,7 @@ pub fn first_line(c: Cursor, s: &[u8]) -> Passed
     let Passed::Got(d) = a else {
         return a;
     };
-    if d.look(s) == 32 {
+    if d.look(s) == SPACE {
         let place = d.at;
         return Passed::Refused(Refusal {
             kind: Kind::Carried,
@@ -52,23 +54,21 @@ pub fn last_line(c: Cursor, s: &[u8]) -> Passed
 
 // A statement of the type k, onto the tape from `out` on.
 fn statement_of(c: Cursor, s: &[u8], k: u32, place: usize, tape: &mut [u32], out: usize) -> Wrote
-    requires { ⌜ (out ≤ place) × (place < c .at) × (length (now s) ≤ length (now tape)) × (length (now s) ≤ 60000) × (place < 60000) ⌝ }
-    requires { ⌜ (k ≡ 10 → place + 1 < c .at) ⌝ }
-    ensures { λ r. ⌜ asWrote r (now (tape .exit)) ≡ onTape (wordsAt place) (now (tape .entry)) out (statementOf k place (now (s .entry)) (c .at)) ⌝ }
+    requires { ⌜ (out ≤ c .at) × (length (now s) ≤ length (now tape)) × (length (now s) ≤ 65536) × (k ≡ 10 → out < c .at) ⌝ }
+    ensures { λ r. ⌜ asWrote r (now (tape .exit)) ≡ onTape wordsOf (now (tape .entry)) out (statementOf k place (now (s .entry)) (c .at)) ⌝ }
     ensures { λ r. ⌜ roomy r ⌝ }
 {
-    let line = place as u32;
     if k == 1 {
-        return rule_line(c, s, line, tape, out);
+        return rule_line(c, s, tape, out);
     }
     if k == 4 {
-        return output_line(c, s, line, tape, out);
+        return output_line(c, s, tape, out);
     }
     if k == 9 {
-        return theory_part(c, s, line, tape, out);
+        return theory_part(c, s, tape, out);
     }
     if k == 10 {
-        return comment_line(c, s, line, tape, out);
+        return comment_line(c, s, tape, out);
     }
     Wrote::Refused(Refusal {
         kind: Kind::Carried,
@@ -78,7 +78,7 @@ fn statement_of(c: Cursor, s: &[u8], k: u32, place: usize, tape: &mut [u32], out
 
 // At most n lines, of which the line `0` is the last, on the tape from its start on; and how many they are.
 pub fn lines(c: Cursor, s: &[u8], n: usize, tape: &mut [u32]) -> Step
-    requires { ⌜ (length (now s) ≤ length (now tape)) × (length (now s) ≤ 60000) ⌝ }
+    requires { ⌜ (0 < c .at) × (length (now s) ≤ length (now tape)) × (length (now s) ≤ 65536) ⌝ }
     ensures { λ r. ⌜ asTape r (now (tape .exit)) ≡ taped (now (tape .entry)) (answer (lines n (now (s .entry)) (c .at))) ⌝ }
     ensures { λ r. ⌜ mapped (linesOf (now (tape .exit))) (asStep r) ≡ answer (lines n (now (s .entry)) (c .at)) ⌝ }
     ensures { λ r. ⌜ tapedIf r (now (tape .exit)) ⌝ }
@@ -100,7 +100,8 @@ pub fn lines(c: Cursor, s: &[u8], n: usize, tape: &mut [u32]) -> Step
             let count = n - left;
             return Step::Good(count);
         }
-        let w = statement_of(e, s, k, place, tape, o);
+        let from = o + 2;
+        let w = statement_of(e, s, k, place, tape, from);
         let Wrote::Got(f, p) = w else {
             return Step::Refused(w.refusal());
         };
@@ -108,6 +109,7 @@ pub fn lines(c: Cursor, s: &[u8], n: usize, tape: &mut [u32]) -> Step
         let Passed::Got(g) = z else {
             return Step::Refused(z.refusal());
         };
+        head_line(tape, o, place, p);
         d = g;
         o = p;
         left -= 1;

@@ -2,17 +2,22 @@
 ghost use mathlib.Core.Path.{_≡_};
 ghost use Prim.Native.Nat.{_+_, _≤_, _<_};
 ghost use lib.ListN.{length};
-ghost use Rattle.fields.specs.Tape.{onTape, listed};
-ghost use Rattle.fields.specs.Values.{asPassed, asWrote, roomy};
+ghost use Rattle.fields.specs.inner.Tape.{onTape, listed};
+ghost use Rattle.fields.specs.inner.Values.{asPassed, asWrote, roomy};
 ghost use Rattle.aspif.specs.Grammar.{heads, bodyKind, literals, body, ruleLine, outputLine, commentLine};
-ghost use Rattle.aspif.specs.Words.{wordsAt};
+ghost use Rattle.aspif.specs.inner.Words.{bodyWords, wordsOf};
+use crate::kinds::COMMENT;
+use crate::kinds::OUTPUT;
+use crate::kinds::RULE;
 use crate::tape::begin;
-use crate::tape::begin_with;
+use crate::tape::put;
 use faults::Kind;
+use faults::MOST_COUNT;
 use faults::Refusal;
 use fields::Cursor;
 use fields::Item;
 use fields::Passed;
+use fields::SPACE;
 use fields::WordField;
 use fields::Wrote;
 
@@ -25,7 +30,7 @@ fn heads(c: Cursor, s: &[u8], kind: u32, tape: &mut [u32], out: usize) -> Wrote
     if kind == 0 {
         return c.counted(s, Item::Atom, 1, Kind::Carried, tape, out);
     }
-    c.counted(s, Item::Atom, 4096, Kind::Bounds, tape, out)
+    c.counted(s, Item::Atom, MOST_COUNT, Kind::Bounds, tape, out)
 }
 
 // The kind of a body: 0, a normal body.
@@ -53,13 +58,13 @@ pub fn literals(c: Cursor, s: &[u8], tape: &mut [u32], out: usize) -> Wrote
     ensures { λ r. ⌜ asWrote r (now (tape .exit)) ≡ onTape listed (now (tape .entry)) out (literals (now (s .entry)) (c .at)) ⌝ }
     ensures { λ r. ⌜ roomy r ⌝ }
 {
-    c.counted(s, Item::Literal, 4096, Kind::Bounds, tape, out)
+    c.counted(s, Item::Literal, MOST_COUNT, Kind::Bounds, tape, out)
 }
 
 // A normal body: its kind, a count and so many literals.
 fn body(c: Cursor, s: &[u8], tape: &mut [u32], out: usize) -> Wrote
     requires { ⌜ (out ≤ c .at) × (length (now s) ≤ length (now tape)) ⌝ }
-    ensures { λ r. ⌜ asWrote r (now (tape .exit)) ≡ onTape listed (now (tape .entry)) out (body (now (s .entry)) (c .at)) ⌝ }
+    ensures { λ r. ⌜ asWrote r (now (tape .exit)) ≡ onTape bodyWords (now (tape .entry)) out (body (now (s .entry)) (c .at)) ⌝ }
     ensures { λ r. ⌜ roomy r ⌝ }
 {
     let a = body_kind(c, s);
@@ -70,16 +75,16 @@ fn body(c: Cursor, s: &[u8], tape: &mut [u32], out: usize) -> Wrote
 }
 
 // A rule: head and body.
-pub fn rule_line(c: Cursor, s: &[u8], place: u32, tape: &mut [u32], out: usize) -> Wrote
-    requires { ⌜ (out < c .at) × (length (now s) ≤ length (now tape)) ⌝ }
-    ensures { λ r. ⌜ asWrote r (now (tape .exit)) ≡ onTape (wordsAt place) (now (tape .entry)) out (ruleLine (now (s .entry)) (c .at)) ⌝ }
+pub fn rule_line(c: Cursor, s: &[u8], tape: &mut [u32], out: usize) -> Wrote
+    requires { ⌜ (out ≤ c .at) × (length (now s) ≤ length (now tape)) ⌝ }
+    ensures { λ r. ⌜ asWrote r (now (tape .exit)) ≡ onTape wordsOf (now (tape .entry)) out (ruleLine (now (s .entry)) (c .at)) ⌝ }
     ensures { λ r. ⌜ roomy r ⌝ }
 {
     let a = c.next_natural(s, 1, Kind::Grammar);
     let WordField::Got(kind, d) = a else {
         return Wrote::Refused(a.refusal());
     };
-    let o1 = begin_with(tape, out, 1, place, kind);
+    let o1 = begin(tape, out, RULE, kind);
     let h = heads(d, s, kind, tape, o1);
     let Wrote::Got(e, o2) = h else {
         return h;
@@ -88,16 +93,16 @@ pub fn rule_line(c: Cursor, s: &[u8], place: u32, tape: &mut [u32], out: usize) 
 }
 
 // An output: a string and literals.
-pub fn output_line(c: Cursor, s: &[u8], place: u32, tape: &mut [u32], out: usize) -> Wrote
-    requires { ⌜ (out < c .at) × (length (now s) ≤ length (now tape)) ⌝ }
-    ensures { λ r. ⌜ asWrote r (now (tape .exit)) ≡ onTape (wordsAt place) (now (tape .entry)) out (outputLine (now (s .entry)) (c .at)) ⌝ }
+pub fn output_line(c: Cursor, s: &[u8], tape: &mut [u32], out: usize) -> Wrote
+    requires { ⌜ (out ≤ c .at) × (length (now s) ≤ length (now tape)) ⌝ }
+    ensures { λ r. ⌜ asWrote r (now (tape .exit)) ≡ onTape wordsOf (now (tape .entry)) out (outputLine (now (s .entry)) (c .at)) ⌝ }
     ensures { λ r. ⌜ roomy r ⌝ }
 {
-    let a = c.natural_then(s, 4096, Kind::Bounds, 32);
+    let a = c.natural_then(s, MOST_COUNT, Kind::Bounds, SPACE);
     let WordField::Got(n, d) = a else {
         return Wrote::Refused(a.refusal());
     };
-    let o1 = begin(tape, out, 4, place);
+    let o1 = put(tape, out, OUTPUT);
     let t = d.listed(s, Item::Char, n, tape, o1);
     let Wrote::Got(e, o2) = t else {
         return t;
@@ -106,15 +111,15 @@ pub fn output_line(c: Cursor, s: &[u8], place: u32, tape: &mut [u32], out: usize
 }
 
 // A comment: a space, and anything up to the line end.
-pub fn comment_line(c: Cursor, s: &[u8], place: u32, tape: &mut [u32], out: usize) -> Wrote
-    requires { ⌜ (out + 1 < c .at) × (length (now s) ≤ length (now tape)) × (length (now s) ≤ 60000) ⌝ }
-    ensures { λ r. ⌜ asWrote r (now (tape .exit)) ≡ onTape (wordsAt place) (now (tape .entry)) out (commentLine (now (s .entry)) (c .at)) ⌝ }
+pub fn comment_line(c: Cursor, s: &[u8], tape: &mut [u32], out: usize) -> Wrote
+    requires { ⌜ (out < c .at) × (length (now s) ≤ length (now tape)) × (length (now s) ≤ 65536) ⌝ }
+    ensures { λ r. ⌜ asWrote r (now (tape .exit)) ≡ onTape wordsOf (now (tape .entry)) out (commentLine (now (s .entry)) (c .at)) ⌝ }
     ensures { λ r. ⌜ roomy r ⌝ }
 {
-    let a = c.byte(s, 32);
+    let a = c.byte(s, SPACE);
     let Passed::Got(d) = a else {
         return Wrote::Refused(a.refusal());
     };
-    let o1 = begin(tape, out, 10, place);
+    let o1 = put(tape, out, COMMENT);
     d.rest(s, tape, o1)
 }

@@ -1,11 +1,17 @@
--- Laws of lists: runs of stores, and lists of zeros. Assumes nothing.
-use Prim.Native.Nat.{ℕ, zero, suc, _+_}
+-- Laws of lists: what holds of all members, runs of stores, and lists of zeros. Assumes nothing.
+use Prim.Native.Nat.{ℕ, zero, suc, _+_, _<_}
 use mathlib.Core.Path.{_≡_, refl}
 use mathlib.Core.List.{List, [], _∷_, _++_}
 use native.Mathlib.Omega.{arith}
 use native.Mathlib.Nat.{add-zero}
 use lib.ListN.{length, getD, set, replicate}
-use lib.Seq.{sets}
+use lib.Seq.{set-comm, sets}
+use Rattle.basics.specs.Lists.{All}
+
+-- what follows of each member
+pub all-so : {A : Type 0} {P Q : A → Type 0} → ((a : A) → P a → Q a) → (l : List A) → All P l → All Q l
+all-so f [] h = tt
+all-so f (a ∷ l) h = (f a (h .0), all-so f l (h .1))
 
 -- a run of stores behind another is one run with it
 pub sets-append : (l : List ℕ) (o : ℕ) (xs ys : List ℕ) → sets (sets l o xs) (o + length xs) ys ≡ sets l o (xs ++ ys)
@@ -19,3 +25,8 @@ pub zeros : (n k : ℕ) → _≡_ {A = ℕ} (getD (replicate n 0) k 0) 0
 zeros zero k = refl
 zeros (suc n) zero = refl
 zeros (suc n) (suc k) = zeros n k
+
+-- a store before a run of stores comes first or last
+pub sets-before : (l : List ℕ) (o i v : ℕ) (ws : List ℕ) → i < o → set (sets l o ws) i v ≡ sets (set l i v) o ws
+sets-before l o i v [] h = refl
+sets-before l o i v (w ∷ ws) h = rw (sets-before (set l o w) (suc o) i v ws (omega arith), set-comm l o i w v (λ e. omega arith))

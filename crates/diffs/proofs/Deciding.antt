@@ -9,11 +9,12 @@ use lib.Dec.{T}
 use lib.ListN.{length}
 use lib.IntN.{ℤ, pos}
 use lib.Signed.{ltZ}
+use Rattle.faults.specs.inner.Places.{termPlaces}
 use Rattle.diffs.specs.Diff.{Diff, Earliest, Sum, NegCycle}
-use Rattle.diffs.specs.Answer.{at, diffAt, Among, Slices, Given}
-use Rattle.diffs.specs.Steps.{Fresh, Stuck, Settled, Traceable, Numbers}
+use Rattle.diffs.specs.inner.Answer.{cell, diffAt, Among, Slices, Given}
+use Rattle.diffs.specs.inner.Steps.{Fresh, Stuck, SettledOrStuck, Traceable, Numbers}
 
-pub fresh : (xs ys : List ℕ) (ks : List ℤ) (labels t room p : List ℕ) → Given xs ys ks labels t room → length p ≡ 1024 → Fresh xs ys ks t p
+pub fresh : (xs ys : List ℕ) (ks : List ℤ) (labels t room p : List ℕ) → Given xs ys ks labels t room → length p ≡ termPlaces → Fresh xs ys ks t p
 fresh xs ys ks labels t room p g h = record {
   slices = subst (λ (n : ℕ). Slices n xs ys ks) (sym (g .times)) (g .slices);
   names = omega (arith, g .times);
@@ -22,16 +23,16 @@ fresh xs ys ks labels t room p g h = record {
 }
 
 module _ (m n : ℕ) (c : ℕ → Diff) (r : ℕ) (t p : List ℕ) where
-  pub times-of : Settled m n c r t p → r ≡ n → Earliest (Among m c) (at t)
+  pub times-of : SettledOrStuck m n c r t p → r ≡ n → Earliest (Among m c) (cell t)
   times-of (inl s) e = s .1
   times-of (inr s) e = let z : ⊥ = omega (arith, s .name) in absurd z
 
-  stuck-of : Settled m n c r t p → r ≢ n → Stuck m n c r p
+  stuck-of : SettledOrStuck m n c r t p → r ≢ n → Stuck m n c r p
   stuck-of (inl s) f = absurd (f (s .0))
   stuck-of (inr s) f = s
 
 pub traceable : (xs ys : List ℕ) (ks : List ℤ) (t p w : List ℕ) (n r : ℕ)
-    → Settled (length ks) n (diffAt xs ys ks) r t p → r ≢ n → Slices 1024 xs ys ks → n ≡ 1024 → length p ≡ 1024 → length w ≡ 1024
+    → SettledOrStuck (length ks) n (diffAt xs ys ks) r t p → r ≢ n → Slices termPlaces xs ys ks → n ≡ termPlaces → length p ≡ termPlaces → length w ≡ termPlaces
     → Traceable xs ys ks p w r
 traceable xs ys ks t p w n r s f g e h j = record {
   stuck = subst (λ (k : ℕ). Stuck (length ks) k (diffAt xs ys ks) r p) (e ∙ sym h) (stuck-of (length ks) n (diffAt xs ys ks) r t p s f);

@@ -5,7 +5,7 @@ use mathlib.Core.Logic.{_≢_}
 use Prim.Native.Nat.{ℕ, _≤_}
 use native.Mathlib.Omega.{arith}
 use Rattle.diffs.specs.Diff.{Diff, KeepsAll, whole, Earliest}
-use Rattle.diffs.specs.Steps.{Holds}
+use Rattle.diffs.specs.inner.Steps.{Holds}
 use Rattle.diffs.proofs.Choosing.{upd, upd-same, upd-other}
 use Rattle.diffs.proofs.Integers.{keeps-holds, holds-keeps}
 
@@ -28,7 +28,7 @@ module _ (S S′ : Diff → Type 0) (more : (d : Diff) → S d → S′ d) where
   none-earlier u v e f n = e .least v (λ d s. f .keeps d (more d s)) n
 
   -- where the old times keep the differences added, they are still the earliest
-  pub still-earliest : (u : ℕ → ℕ) → Earliest S u → KeepsAll (whole u) S′ → Earliest S′ u
+  still-earliest : (u : ℕ → ℕ) → Earliest S u → KeepsAll (whole u) S′ → Earliest S′ u
   still-earliest u e k = record { keeps = k; least = λ v h. e .least v (λ d s. h d (more d s)) }
 
   -- where the old times keep the differences added, nothing moves

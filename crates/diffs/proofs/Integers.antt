@@ -9,7 +9,7 @@ use lib.Dec.{T, ltb, leb→le, le→leb, ltb→lt, lt→ltb, nltb→le}
 use lib.IntN.{ℤ, pos, negsuc, negℤ, subℕ, _+ℤ_, _-ℤ_}
 use lib.Signed.{_≤ℤ_, _<ℤ_, leZ, ltZ}
 use Rattle.diffs.specs.Diff.{Diff, Keeps, whole}
-use Rattle.diffs.specs.Steps.{up, down, Holds}
+use Rattle.diffs.specs.inner.Steps.{up, down, Holds}
 
 le-up′ : (z w : ℤ) → T (leZ z w) → up z + down w ≤ up w + down z
 le-up′ (pos a) (pos b) t = omega (arith, leb→le a b t)

@@ -12,7 +12,7 @@ use lib.IntN.{pos, negℤ}
 use lib.Signed.{_≤ℤ_}
 use Rattle.basics.specs.Lists.{All, NotIn, Distinct}
 use Rattle.diffs.specs.Diff.{Diff, Earliest}
-use Rattle.diffs.specs.Steps.{down, Holds}
+use Rattle.diffs.specs.inner.Steps.{down, Holds}
 use Rattle.diffs.proofs.Choosing.{by-dec, pick-dec, pick-yes, pick-no}
 use Rattle.diffs.proofs.EarliestTimes.{unnamed-zero}
 use Rattle.diffs.proofs.Integers.{one-zero, le-up, neg-up, keeps-holds, holds-keeps}
@@ -132,8 +132,8 @@ module _ (S : Diff → Type 0) (n K : ℕ) (named : (d : Diff) → S d → (d .x
       in omega (arith, p, r .many)
 
   -- an earliest time is at most (n - 1) * K, where all names are below n and no bound is below -K
-  pub latest : (v : ℕ) → u v ≤ (n - 1) * K
-  latest v =
+  pub latest-time : (v : ℕ) → u v ≤ (n - 1) * K
+  latest-time v =
       by-dec (decLt v n)
       (λ h. by-dec (decLe (u v) ((n - 1) * K)) (λ l. l) (λ f. absurd (too-many v (n - 1) h (omega arith) (omega arith))))
       (λ h. let z : u v ≡ 0 = unnamed-zero S u e v (λ d s. (λ q. h (omega (arith, named d s)), λ q. h (omega (arith, named d s)))) in omega arith)

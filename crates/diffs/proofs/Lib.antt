@@ -16,4 +16,3 @@ pub mod Laying
 pub mod Showing
 pub mod Deciding
 pub mod Answers
-pub mod Witness

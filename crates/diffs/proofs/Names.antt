@@ -7,7 +7,7 @@ use native.Mathlib.Omega.{arith}
 use native.Mathlib.Decide.{ℕ-discrete}
 use lib.ListN.{length, take}
 use Rattle.basics.specs.Lists.{All, NotIn, Distinct}
-use Rattle.diffs.specs.Diff.{Diff, Path, firsts}
+use Rattle.diffs.specs.Diff.{Diff, Path, xsOf}
 use Rattle.diffs.proofs.Choosing.{by-dec}
 
 -- ---- All
@@ -71,42 +71,42 @@ distinct-swap ns ms h =
 -- ---- a path's names
 
 -- the names y1, y2, .., yn
-abbrev pub seconds : List Diff → List ℕ
-seconds ds = map (λ (d : Diff). d .y) ds
+abbrev pub ysOf : List Diff → List ℕ
+ysOf ds = map (λ (d : Diff). d .y) ds
 
-pub notin-take : (w n : ℕ) (ds : List Diff) → NotIn w (seconds ds) → NotIn w (seconds (take n ds))
+notin-take : (w n : ℕ) (ds : List Diff) → NotIn w (ysOf ds) → NotIn w (ysOf (take n ds))
 notin-take w zero ds h = tt
 notin-take w (suc n) [] h = tt
 notin-take w (suc n) (d ∷ ds) h = (h .0, notin-take w n ds (h .1))
 
-pub distinct-take : (n : ℕ) (ds : List Diff) → Distinct (seconds ds) → Distinct (seconds (take n ds))
+pub distinct-take : (n : ℕ) (ds : List Diff) → Distinct (ysOf ds) → Distinct (ysOf (take n ds))
 distinct-take zero ds h = tt
 distinct-take (suc n) [] h = tt
 distinct-take (suc n) (d ∷ ds) h = (notin-take (d .y) n ds (h .0), distinct-take n ds (h .1))
 
 -- each x is the path's start or a y before it, and its end is one of the two too
-notin-firsts : (w a : ℕ) (ds : List Diff) (b : ℕ) → Path a ds b → NotIn w (a ∷ seconds ds) → NotIn w (firsts ds)
-notin-firsts w a [] b p h = tt
-notin-firsts w a (d ∷ ds) b p h = (λ e. h .0 (e ∙ p .0), notin-firsts w (d .y) ds b (p .1) (h .1))
+notin-xs : (w a : ℕ) (ds : List Diff) (b : ℕ) → Path a ds b → NotIn w (a ∷ ysOf ds) → NotIn w (xsOf ds)
+notin-xs w a [] b p h = tt
+notin-xs w a (d ∷ ds) b p h = (λ e. h .0 (e ∙ p .0), notin-xs w (d .y) ds b (p .1) (h .1))
 
-notin-end : (w a : ℕ) (ds : List Diff) (b : ℕ) → Path a ds b → NotIn w (a ∷ seconds ds) → w ≢ b
+notin-end : (w a : ℕ) (ds : List Diff) (b : ℕ) → Path a ds b → NotIn w (a ∷ ysOf ds) → w ≢ b
 notin-end w a [] b p h = λ e. h .0 (e ∙ sym p)
 notin-end w a (d ∷ ds) b p h = notin-end w (d .y) ds b (p .1) (h .1)
 
-firsts-of-seconds : (a : ℕ) (ds : List Diff) (b : ℕ) → Path a ds b → Distinct (a ∷ seconds ds) → Distinct (firsts ds) × NotIn b (firsts ds)
-firsts-of-seconds a [] b p h = (tt, tt)
-firsts-of-seconds a (d ∷ ds) b p h =
-    let r = firsts-of-seconds (d .y) ds b (p .1) (h .1) in (
-      (subst (λ (n : ℕ). NotIn n (firsts ds)) (sym (p .0)) (notin-firsts a (d .y) ds b (p .1) (h .0)), r .0),
+xs-of-ys : (a : ℕ) (ds : List Diff) (b : ℕ) → Path a ds b → Distinct (a ∷ ysOf ds) → Distinct (xsOf ds) × NotIn b (xsOf ds)
+xs-of-ys a [] b p h = (tt, tt)
+xs-of-ys a (d ∷ ds) b p h =
+    let r = xs-of-ys (d .y) ds b (p .1) (h .1) in (
+      (subst (λ (n : ℕ). NotIn n (xsOf ds)) (sym (p .0)) (notin-xs a (d .y) ds b (p .1) (h .0)), r .0),
       (λ e. notin-end a (d .y) ds b (p .1) (h .0) (sym (e ∙ p .0)), r .1),
     )
 
--- of a closed path, the firsts are all different where the seconds are
-pub closed-different : (a : ℕ) (ds : List Diff) → Path a ds a → Distinct (seconds ds) → Distinct (firsts ds)
+-- of a closed path, the names x are all different where the names y are
+pub closed-different : (a : ℕ) (ds : List Diff) → Path a ds a → Distinct (ysOf ds) → Distinct (xsOf ds)
 closed-different a [] p h = tt
 closed-different a (d ∷ ds) p h =
-    let r = firsts-of-seconds (d .y) ds a (p .1) h in
-    (subst (λ (n : ℕ). NotIn n (firsts ds)) (sym (p .0)) (r .1), r .0)
+    let r = xs-of-ys (d .y) ds a (p .1) h in
+    (subst (λ (n : ℕ). NotIn n (xsOf ds)) (sym (p .0)) (r .1), r .0)
 
 -- ---- how many there can be
 

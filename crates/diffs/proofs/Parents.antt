@@ -14,11 +14,11 @@ use lib.IntN.{pos}
 use lib.Signed.{_<ℤ_}
 use Rattle.basics.specs.Lists.{All, NotIn, Distinct}
 use Rattle.diffs.specs.Diff.{Diff, Path, Sum, NegCycle}
-use Rattle.diffs.specs.Answer.{Among}
-use Rattle.diffs.specs.Steps.{up, down, Link, Inv}
+use Rattle.diffs.specs.inner.Answer.{Among}
+use Rattle.diffs.specs.inner.Steps.{up, down, Link, Inv}
 use Rattle.diffs.proofs.Choosing.{by-dec}
 use Rattle.diffs.proofs.Integers.{up-lt, add-up}
-use Rattle.diffs.proofs.Names.{seconds, all-map, all-take, distinct-take, closed-different, pigeon}
+use Rattle.diffs.proofs.Names.{ysOf, all-map, all-take, distinct-take, closed-different, pigeon}
 
 module _ (m : ℕ) (c : ℕ → Diff) (b i : ℕ) (t p s : ℕ → ℕ) (v : Inv m c b i t p s) where
   -- d is the parent of some name
@@ -64,7 +64,7 @@ module _ (m : ℕ) (c : ℕ → Diff) (b i : ℕ) (t p s : ℕ → ℕ) (v : Inv
   closed-below a es n q u =
       up-lt (⊎-elim (λ g. omega arith) (λ g. let z : ⊥ = omega (arith, g .1) in absurd z) (gain a es a q u))
 
-  closed-cycle : (a : ℕ) (es : List Diff) → 0 < length es → Path a es a → All Used es → Distinct (seconds es) → NegCycle (Among m c) es
+  closed-cycle : (a : ℕ) (es : List Diff) → 0 < length es → Path a es a → All Used es → Distinct (ysOf es) → NegCycle (Among m c) es
   closed-cycle a es n q u w = record {
     members = all-map Used (Among m c) used-among es u;
     cycle = record { some = n; start = a; closed = q; different = closed-different a es q w };
@@ -77,36 +77,36 @@ module _ (m : ℕ) (c : ℕ → Diff) (b i : ℕ) (t p s : ℕ → ℕ) (v : Inv
     pub record Back (a : ℕ) (es : List Diff) : Type 0 where
       pub path : Path a es last
       pub used : All Used es
-      pub different : Distinct (seconds es)
+      pub different : Distinct (ysOf es)
       pub name : a < n
       pub late : n * m < s a + length es * m
 
     pub begins : last < n → n * m < s last → Back last []
     begins h g = record { path = refl; used = tt; different = tt; name = h; late = omega (arith, zero-mul m) }
 
-    seconds-below : (es : List Diff) → All Used es → All (λ a. a < n) (seconds es)
-    seconds-below [] u = tt
-    seconds-below (d ∷ es) u =
+    ys-below : (es : List Diff) → All Used es → All (λ a. a < n) (ysOf es)
+    ys-below [] u = tt
+    ys-below (d ∷ es) u =
         let a = used-among d (u .0) in
-        (subst (λ (e : Diff). e .y < n) (a .is) (named (a .number) (a .within) .1), seconds-below es (u .1))
+        (subst (λ (e : Diff). e .y < n) (a .is) (named (a .number) (a .within) .1), ys-below es (u .1))
 
     -- fewer than n parents so far, and one more
-    pub short : (a : ℕ) (es : List Diff) → Back a es → NotIn a (seconds es) → length es < n
-    short a es w h = omega (arith, pigeon n (a ∷ seconds es) (h, w .different) (w .name, seconds-below es (w .used)), length-map es (λ (d : Diff). d .y))
+    pub short : (a : ℕ) (es : List Diff) → Back a es → NotIn a (ysOf es) → length es < n
+    short a es w h = omega (arith, pigeon n (a ∷ ysOf es) (h, w .different) (w .name, ys-below es (w .used)), length-map es (λ (d : Diff). d .y))
 
-    pub high : (a : ℕ) (es : List Diff) → Back a es → NotIn a (seconds es) → 0 < s a
+    pub high : (a : ℕ) (es : List Diff) → Back a es → NotIn a (ysOf es) → 0 < s a
     high a es w h =
         let k : length es ≤ n = omega (arith, short a es w h) in
         omega (arith, w .late, mul-le-mul-right m k)
 
-    pub more : (a : ℕ) (es : List Diff) → Back a es → NotIn a (seconds es) → Back (c (p a) .x) (c (p a) ∷ es)
+    pub more : (a : ℕ) (es : List Diff) → Back a es → NotIn a (ysOf es) → Back (c (p a) .x) (c (p a) ∷ es)
     more a es w h =
         let g : 0 < s a = high a es w h in
         let l : Link m t s a (c (p a)) = v .link a g in
         record {
           path = (refl, subst (λ (q : ℕ). Path q es last) (sym (l .ends)) (w .path));
           used = (record { of = a; high = g; is = refl }, w .used);
-          different = (subst (λ (q : ℕ). NotIn q (seconds es)) (sym (l .ends)) h, w .different);
+          different = (subst (λ (q : ℕ). NotIn q (ysOf es)) (sym (l .ends)) h, w .different);
           name = named (p a) (v .index a g) .0;
           late = omega (arith, w .late, l .lag, suc-mul (length es) m);
         }

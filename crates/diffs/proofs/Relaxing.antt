@@ -6,8 +6,8 @@ use Prim.Native.Nat.{ℕ, _+_, _≤_, _<_}
 use native.Mathlib.Omega.{arith}
 use native.Mathlib.Decide.{ℕ-discrete, decLt}
 use Rattle.diffs.specs.Diff.{Diff, Keeps, whole, Earliest}
-use Rattle.diffs.specs.Answer.{Among}
-use Rattle.diffs.specs.Steps.{up, down, Holds, Link, Inv}
+use Rattle.diffs.specs.inner.Answer.{Among}
+use Rattle.diffs.specs.inner.Steps.{up, down, Holds, Link, Inv}
 use Rattle.diffs.proofs.Choosing.{by-dec, at-or}
 use Rattle.diffs.proofs.Integers.{holds-keeps, keeps-holds}
 

@@ -11,9 +11,11 @@ use native.Mathlib.Decide.{decLt}
 use lib.IntN.{ℤ}
 use lib.ListN.{length, length-set}
 use lib.Seq.{getD-set-same, getD-set-other}
+use Rattle.faults.specs.Limits.{lastAtom}
+use Rattle.faults.specs.inner.Places.{termPlaces}
 use Rattle.diffs.specs.Diff.{Diff, Earliest}
-use Rattle.diffs.specs.Answer.{at, diffAt, Among, Slices}
-use Rattle.diffs.specs.Steps.{up, down, Holds, Relaxed, Inv, Between, Mid, Underway, Passed, Stuck}
+use Rattle.diffs.specs.inner.Answer.{cell, diffAt, Among, Slices}
+use Rattle.diffs.specs.inner.Steps.{up, down, mostDown, Holds, Relaxed, Inv, BeforeRound, Mid, Underway, RoundUpTo, Stuck}
 use Rattle.diffs.proofs.Choosing.{by-dec, at-or, upd, upd-same, upd-other}
 use Rattle.diffs.proofs.Relaxing.{Raise, raise, skip, start, again, settled}
 
@@ -22,11 +24,11 @@ more-mul r m = ap (λ (k : ℕ). k * m) (add-one r) ∙ suc-mul r m
 
 module _ (m n : ℕ) (c : ℕ → Diff) where
   -- before the first round
-  pub first : (t p : List ℕ) (last : ℕ) → ((a : ℕ) → at t a ≡ 0) → length t ≡ n → length p ≡ n → Between m n c 0 last t p
+  pub first : (t p : List ℕ) (last : ℕ) → ((a : ℕ) → cell t a ≡ 0) → length t ≡ n → length p ≡ n → BeforeRound m n c 0 last t p
   first t p last z lt lp = record {
     s = λ _. 0;
-    inv = subst (λ (b : ℕ). Inv m c b 0 (at t) (at p) (λ _. 0)) (sym (zero-mul m))
-        (subst (λ (u : ℕ → ℕ). Inv m c 0 0 u (at p) (λ _. 0)) (fun-ext (λ a. sym (z a))) (start m c (at p)));
+    inv = subst (λ (b : ℕ). Inv m c b 0 (cell t) (cell p) (λ _. 0)) (sym (zero-mul m))
+        (subst (λ (u : ℕ → ℕ). Inv m c 0 0 u (cell p) (λ _. 0)) (fun-ext (λ a. sym (z a))) (start m c (cell p)));
     times = lt;
     parents = lp;
     bound = λ a. omega (arith, z a);
@@ -34,13 +36,13 @@ module _ (m n : ℕ) (c : ℕ → Diff) where
   }
 
   -- a time leaves room for a bound in 64 bits
-  pub room : (r i last : ℕ) (t p : List ℕ) → Mid m n c r i last t p → r ≤ 1024 → m ≤ 4096 → i ≤ m → (a : ℕ) → at t a < 2 ^ 62
+  pub room : (r i last : ℕ) (t p : List ℕ) → Mid m n c r i last t p → r ≤ termPlaces → m ≤ lastAtom → i ≤ m → (a : ℕ) → cell t a < 2 ^ 62
   room r i last t p v hr hm hi a =
-      let f : r * m ≤ 1024 * 4096 = mul-le-mul hr hm in
+      let f : r * m ≤ termPlaces * lastAtom = mul-le-mul hr hm in
       omega (arith, v .bound a)
 
   -- the beginning of a round
-  pub begin : (r last : ℕ) (t p : List ℕ) → Between m n c r last t p → Mid m n c r 0 n t p
+  pub begin : (r last : ℕ) (t p : List ℕ) → BeforeRound m n c r last t p → Mid m n c r 0 n t p
   begin r last t p v = record {
     s = v .s;
     inv = v .inv;
@@ -55,25 +57,25 @@ module _ (m n : ℕ) (c : ℕ → Diff) where
     kept : Relaxed false (c i) i t p t′ p′ → Mid m n c r (i + 1) last t′ p′
     kept q = record {
       s = v .s;
-      inv = subst (λ (l : List ℕ). Inv m c (r * m) (i + 1) (at t′) (at l) (v .s)) (sym (q .2))
-          (subst (λ (l : List ℕ). Inv m c (r * m) (i + 1) (at l) (at p) (v .s)) (sym (q .1)) (skip m c (r * m) i (at t) (at p) (v .s) (v .inv) (q .0)));
+      inv = subst (λ (l : List ℕ). Inv m c (r * m) (i + 1) (cell t′) (cell l) (v .s)) (sym (q .2))
+          (subst (λ (l : List ℕ). Inv m c (r * m) (i + 1) (cell l) (cell p) (v .s)) (sym (q .1)) (skip m c (r * m) i (cell t) (cell p) (v .s) (v .inv) (q .0)));
       times = ap length (q .1) ∙ v .times;
       parents = ap length (q .2) ∙ v .parents;
-      bound = λ a. omega (arith, ap (λ (l : List ℕ). at l a) (q .1), v .bound a);
-      none = λ e j h. subst (λ (l : List ℕ). Holds (at l) (c j)) (sym (q .1)) (all e j h);
+      bound = λ a. omega (arith, ap (λ (l : List ℕ). cell l a) (q .1), v .bound a);
+      none = λ e j h. subst (λ (l : List ℕ). Holds (cell l) (c j)) (sym (q .1)) (all e j h);
       some = v .some;
     }
       where
-        all : last ≡ n → (j : ℕ) → j < i + 1 → Holds (at t) (c j)
-        all e j h = by-dec (decLt j i) (λ l. v .none e j l) (λ l. let e : i ≡ j = omega arith in subst (λ (k : ℕ). Holds (at t) (c k)) e (q .0))
+        all : last ≡ n → (j : ℕ) → j < i + 1 → Holds (cell t) (c j)
+        all e j h = by-dec (decLt j i) (λ l. v .none e j l) (λ l. let e : i ≡ j = omega arith in subst (λ (k : ℕ). Holds (cell t) (c k)) e (q .0))
 
-    raised : i < m → c i .y < n → down (c i .k) ≤ 2147483648 → Relaxed true (c i) i t p t′ p′ → Mid m n c r (i + 1) (c i .y) t′ p′
+    raised : i < m → c i .y < n → down (c i .k) ≤ mostDown → Relaxed true (c i) i t p t′ p′ → Mid m n c r (i + 1) (c i .y) t′ p′
     raised im yn ks q = record {
       s = s′;
-      inv = raise m c (r * m) i (at t) (at p) (v .s) (at t′) (at p′) s′ (v .inv) step;
+      inv = raise m c (r * m) i (cell t) (cell p) (v .s) (cell t′) (cell p′) s′ (v .inv) step;
       times = ap length (q .1) ∙ length-set t y _ ∙ v .times;
       parents = ap length (q .2) ∙ length-set p y i ∙ v .parents;
-      bound = at-or (λ a. at t′ a ≤ (r * m + (i + 1)) * 2147483648) y
+      bound = at-or (λ a. cell t′ a ≤ (r * m + (i + 1)) * mostDown) y
           (omega (arith, step .time, v .bound (c i .x)))
           (λ a e. omega (arith, step .times a e, v .bound a));
       none = λ e. let w : ⊥ = omega arith in absurd w;
@@ -86,24 +88,24 @@ module _ (m n : ℕ) (c : ℕ → Diff) where
         s′ : ℕ → ℕ
         s′ = upd (v .s) (c i .y) (r * m + i + 1)
 
-        new : at t′ (c i .y) ≡ at t (c i .x) + down (c i .k) - up (c i .k)
-        new = ap (λ (l : List ℕ). at l (c i .y)) (q .1) ∙ getD-set-same t (c i .y) _ 0 (omega (arith, v .times))
+        new : cell t′ (c i .y) ≡ cell t (c i .x) + down (c i .k) - up (c i .k)
+        new = ap (λ (l : List ℕ). cell l (c i .y)) (q .1) ∙ getD-set-same t (c i .y) _ 0 (omega (arith, v .times))
 
-        step : Raise m c (r * m) i (at t) (at p) (v .s) (at t′) (at p′) s′
+        step : Raise m c (r * m) i (cell t) (cell p) (v .s) (cell t′) (cell p′) s′
         step = record {
           within = im;
           hit = q .0;
           time = omega (arith, new, q .0);
-          parent = ap (λ (l : List ℕ). at l (c i .y)) (q .2) ∙ getD-set-same p (c i .y) i 0 (omega (arith, v .parents));
+          parent = ap (λ (l : List ℕ). cell l (c i .y)) (q .2) ∙ getD-set-same p (c i .y) i 0 (omega (arith, v .parents));
           stamp = upd-same (v .s) (c i .y) (r * m + i + 1);
-          times = λ a e. ap (λ (l : List ℕ). at l a) (q .1) ∙ getD-set-other t (c i .y) a _ 0 e;
-          parents = λ a e. ap (λ (l : List ℕ). at l a) (q .2) ∙ getD-set-other p (c i .y) a i 0 e;
+          times = λ a e. ap (λ (l : List ℕ). cell l a) (q .1) ∙ getD-set-other t (c i .y) a _ 0 e;
+          parents = λ a e. ap (λ (l : List ℕ). cell l a) (q .2) ∙ getD-set-other p (c i .y) a i 0 e;
           stamps = λ a e. upd-other (v .s) (c i .y) (r * m + i + 1) a e;
         }
 
   -- a step as the code makes it: q says whether it raised, k is the bound as the code reads it, and last′ the name raised last after it
   pub stepped : (r i last last′ : ℕ) (t p t′ p′ : List ℕ) (q : Bool) (k : ℤ)
-      → Mid m n c r i last t p → i < m → c i .y < n → down (c i .k) ≤ 2147483648 → k ≡ c i .k
+      → Mid m n c r i last t p → i < m → c i .y < n → down (c i .k) ≤ mostDown → k ≡ c i .k
       → Relaxed q (record { x = c i .x; y = c i .y; k = k }) i t p t′ p′
       → ((q ≡ true) × (last′ ≡ c i .y)) ⊎ ((q ≡ false) × (last′ ≡ last))
       → Mid m n c r (i + 1) last′ t′ p′
@@ -116,14 +118,14 @@ module _ (m n : ℕ) (c : ℕ → Diff) where
 
   module _ (r last : ℕ) (t p : List ℕ) (v : Mid m n c r m last t p) where
     -- a round that raised nothing leaves the earliest times
-    pub quiet : last ≡ n → Earliest (Among m c) (at t)
-    quiet f = settled m c (r * m) (at t) (at p) (v .s) (v .inv) (v .none f)
+    pub quiet : last ≡ n → Earliest (Among m c) (cell t)
+    quiet f = settled m c (r * m) (cell t) (cell p) (v .s) (v .inv) (v .none f)
 
     -- after a round that raised something
-    pub next : last ≢ n → Between m n c (r + 1) last t p
+    pub next : last ≢ n → BeforeRound m n c (r + 1) last t p
     next f = record {
       s = v .s;
-      inv = subst (λ (b : ℕ). Inv m c b 0 (at t) (at p) (v .s)) (sym (more-mul r m)) (again m c (r * m) (at t) (at p) (v .s) (v .inv));
+      inv = subst (λ (b : ℕ). Inv m c b 0 (cell t) (cell p) (v .s)) (sym (more-mul r m)) (again m c (r * m) (cell t) (cell p) (v .s) (v .inv));
       times = v .times;
       parents = v .parents;
       bound = λ a. omega (arith, v .bound a, more-mul r m);
@@ -131,15 +133,15 @@ module _ (m n : ℕ) (c : ℕ → Diff) where
     }
 
   -- round n + 1 raised something
-  pub stuck : (r last : ℕ) (t p : List ℕ) → Between m n c r last t p → r ≡ n + 1 → Stuck m n c last p
+  pub stuck : (r last : ℕ) (t p : List ℕ) → BeforeRound m n c r last t p → r ≡ n + 1 → Stuck m n c last p
   stuck r last t p v e =
       let l = v .late (omega arith) in
-      record { t = at t; s = v .s; b = r * m; inv = v .inv; name = l .0; late = omega (arith, l .1, more-mul n m, ap (λ (k : ℕ). k * m) e) }
+      record { t = cell t; s = v .s; b = r * m; inv = v .inv; name = l .0; late = omega (arith, l .1, more-mul n m, ap (λ (k : ℕ). k * m) e) }
 
 -- ---- `round` as `settle` calls it, where the count of names is the length of t
 
-pub underway : (n : ℕ) (xs ys : List ℕ) (ks : List ℤ) (t p : List ℕ) (r last : ℕ) → Slices n xs ys ks → n ≤ 1024 → r ≤ n
-    → Between (length ks) n (diffAt xs ys ks) r last t p → Underway xs ys ks t p
+pub underway : (n : ℕ) (xs ys : List ℕ) (ks : List ℤ) (t p : List ℕ) (r last : ℕ) → Slices n xs ys ks → n ≤ termPlaces → r ≤ n
+    → BeforeRound (length ks) n (diffAt xs ys ks) r last t p → Underway xs ys ks t p
 underway n xs ys ks t p r last g h j v =
     let e : n ≡ length t = sym (v .times) in
     record {
@@ -148,10 +150,10 @@ underway n xs ys ks t p r last g h j v =
       r = r;
       early = omega arith;
       before = last;
-      between = subst (λ (k : ℕ). Between (length ks) k (diffAt xs ys ks) r last t p) e v;
+      state = subst (λ (k : ℕ). BeforeRound (length ks) k (diffAt xs ys ks) r last t p) e v;
     }
 
-pub rounded : (m n : ℕ) (c : ℕ → Diff) (t p t′ p′ : List ℕ) (r last last′ : ℕ) → Between m n c r last t p
-    → Passed m (length t) c m last′ t p t′ p′ → Mid m n c r m last′ t′ p′
+pub rounded : (m n : ℕ) (c : ℕ → Diff) (t p t′ p′ : List ℕ) (r last last′ : ℕ) → BeforeRound m n c r last t p
+    → RoundUpTo m (length t) c m last′ t p t′ p′ → Mid m n c r m last′ t′ p′
 rounded m n c t p t′ p′ r last last′ v q =
-    subst (λ (k : ℕ). Mid m k c r m last′ t′ p′) (v .times) (q r last (subst (λ (k : ℕ). Between m k c r last t p) (sym (v .times)) v))
+    subst (λ (k : ℕ). Mid m k c r m last′ t′ p′) (v .times) (q r last (subst (λ (k : ℕ). BeforeRound m k c r last t p) (sym (v .times)) v))

@@ -7,9 +7,9 @@ use native.Mathlib.Omega.{arith}
 use lib.ListN.{length, drop}
 use lib.Seq.{slice, length-slice}
 use Rattle.basics.specs.Lists.{All}
-use Rattle.diffs.specs.Diff.{Diff, NegCycle}
-use Rattle.diffs.specs.Answer.{at, Among, LeastFirst, Shown}
-use Rattle.diffs.specs.Steps.{Numbers, Least, turned, Laid}
+use Rattle.diffs.specs.Diff.{Diff, NegCycle, LeastFirst}
+use Rattle.diffs.specs.inner.Answer.{cell, Among, Shown}
+use Rattle.diffs.specs.inner.Steps.{Numbers, LeastLabel, turned, Laid}
 use Rattle.diffs.proofs.Laying.{source, turned-length}
 use Rattle.diffs.proofs.Names.{all-join}
 use Rattle.diffs.proofs.Slices.{slice-at, slice-split}
@@ -24,17 +24,17 @@ laid-cycle S c w start end q f b n =
 
 -- ---- each number of the part is one of the list laid out
 
-all-at : (P : ℕ → Type 0) (l : List ℕ) → ((k : ℕ) → k < length l → P (at l k)) → All P l
+all-at : (P : ℕ → Type 0) (l : List ℕ) → ((k : ℕ) → k < length l → P (cell l k)) → All P l
 all-at P [] h = tt
 all-at P (a ∷ l) h = (h zero (omega arith), all-at P l (λ k j. h (suc k) (omega arith)))
 
-all-slice : (P : ℕ → Type 0) (w : List ℕ) (a e : ℕ) → e ≤ length w → ((k : ℕ) → a ≤ k → k < e → P (at w k)) → All P (slice a e w)
+all-slice : (P : ℕ → Type 0) (w : List ℕ) (a e : ℕ) → e ≤ length w → ((k : ℕ) → a ≤ k → k < e → P (cell w k)) → All P (slice a e w)
 all-slice P w a e h f = all-at P (slice a e w) (λ k j.
     let g : k < e - a = omega (arith, length-slice a e w h) in
     subst P (sym (slice-at w a e k g)) (f (a + k) (omega arith) (omega arith)))
 
 all-turned : (P : ℕ → Type 0) (w : List ℕ) (start end q : ℕ) → end ≤ length w → start ≤ q → q < end
-    → ((k : ℕ) → start ≤ k → k < end → P (at w k)) → All P (turned w start end q)
+    → ((k : ℕ) → start ≤ k → k < end → P (cell w k)) → All P (turned w start end q)
 all-turned P w start end q h f b p =
     all-join P (slice q end w) (slice start q w)
     (all-slice P w q end h (λ k i j. p k (omega arith) j))
@@ -46,23 +46,23 @@ least-all : (f : ℕ → ℕ) (i : ℕ) (l : List ℕ) → All (λ j. f i ≤ f 
 least-all f i [] h = tt
 least-all f i (j ∷ l) h = (h .0, least-all f i l (h .1))
 
-least-first : (f : ℕ → ℕ) (i : ℕ) (l : List ℕ) → at l 0 ≡ i → All (λ j. f i ≤ f j) l → LeastFirst (map f l)
+least-first : (f : ℕ → ℕ) (i : ℕ) (l : List ℕ) → cell l 0 ≡ i → All (λ j. f i ≤ f j) l → LeastFirst (map f l)
 least-first f i [] e h = tt
 least-first f i (j ∷ l) e h = subst (λ (n : ℕ). All (λ b. f n ≤ b) (map f l)) (sym e) (least-all f i l (h .1))
 
 -- a negative cycle that was found and laid is shown
-pub shown : (m : ℕ) (c : ℕ → Diff) (labels w : List ℕ) (start end : ℕ) (room room′ : List ℕ) (r : ℕ)
+pub laid-shown : (m : ℕ) (c : ℕ → Diff) (labels w : List ℕ) (start end : ℕ) (room room′ : List ℕ) (r : ℕ)
     → Numbers m w start end → NegCycle (Among m c) (map c (slice start end w)) → Laid labels w start end room room′ r
     → Shown m c labels room room′ r
-shown m c labels w start end room room′ r v n l =
-    let g : Least labels w start end (l .first) = l .least in
+laid-shown m c labels w start end room room′ r v n l =
+    let g : LeastLabel labels w start end (l .first) = l .least in
     record {
       numbers = turned w start end (l .first);
       within = all-turned (λ i. i < m) w start end (l .first) (v .within) (g .from) (g .before) (v .numbers);
       negative = laid-cycle (Among m c) c w start end (l .first) (g .from) (g .before) n;
       count = l .count ∙ sym (turned-length w start end (l .first) (v .within) (g .from) (g .before));
-      least = least-first (at labels) (at w (l .first)) (turned w start end (l .first))
+      least = least-first (cell labels) (cell w (l .first)) (turned w start end (l .first))
           (source w start end (l .first) (v .within) (g .from) (g .before) 0 (l .first) (omega (arith, g .from, g .before)) (inr (omega (arith, g .before), omega arith)) .2)
-          (all-turned (λ j. at labels (at w (l .first)) ≤ at labels j) w start end (l .first) (v .within) (g .from) (g .before) (g .least));
-      shown = l .shown ∙ ap (λ (i : ℕ). map (at labels) (turned w start end (l .first)) ++ drop i room) (sym (l .count));
+          (all-turned (λ j. cell labels (cell w (l .first)) ≤ cell labels j) w start end (l .first) (v .within) (g .from) (g .before) (g .least));
+      shown = l .shown ∙ ap (λ (i : ℕ). map (cell labels) (turned w start end (l .first)) ++ drop i room) (sym (l .count));
     }

@@ -10,7 +10,7 @@ use lib.Signed.{ltZ, nonNeg}
 use mir.Syntax.{w32, w64}
 use mir.Val.{SFits, toZ, ofZ}
 use mir.Facts.{toZ-ofZ, sfits-widen}
-use Rattle.diffs.specs.Steps.{up, down}
+use Rattle.diffs.specs.inner.Steps.{up, down, mostDown}
 
 pub back32 : {k : ℤ} → SFits w32 k → toZ w32 (ofZ w32 k) ≡ k
 back32 f = toZ-ofZ f
@@ -40,6 +40,6 @@ pub up-small : (k : ℤ) → SFits w32 k → up k < 2 ^ 31
 up-small (pos n) f = let h = f .sfits in omega arith
 up-small (negsuc n) f = omega arith
 
-pub down-small : (k : ℤ) → SFits w32 k → down k ≤ 2147483648
+pub down-small : (k : ℤ) → SFits w32 k → down k ≤ mostDown
 down-small (pos n) f = omega arith
 down-small (negsuc n) f = let h = f .sfits in omega arith

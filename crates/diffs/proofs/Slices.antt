@@ -5,9 +5,9 @@ use Prim.Native.Nat.{ℕ, zero, suc, _+_, _-_, _≤_, _<_}
 use native.Mathlib.Omega.{arith}
 use lib.ListN.{take, drop}
 use lib.Seq.{slice, take-nil, take-add, drop-drop, getD-take, getD-drop}
-use Rattle.diffs.specs.Answer.{at}
+use Rattle.diffs.specs.inner.Answer.{cell}
 
-pub slice-at : (w : List ℕ) (a e k : ℕ) → k < e - a → at (slice a e w) k ≡ at w (a + k)
+pub slice-at : (w : List ℕ) (a e k : ℕ) → k < e - a → cell (slice a e w) k ≡ cell w (a + k)
 slice-at w a e k h = getD-drop a (take e w) k 0 ∙ getD-take e w (a + k) 0 (omega arith)
 
 slice-add : (f n : ℕ) (l : List ℕ) → slice f (f + n) l ≡ take n (drop f l)

@@ -9,9 +9,10 @@ use lib.IntN.{ℤ, pos, negsuc, _+ℤ_}
 use mir.Syntax.{w32, w64}
 use mir.Val.{SFits, toZ, ofZ}
 use mir.Facts.{toZ-ofZ}
+use Rattle.faults.specs.inner.Places.{termPlaces}
 use Rattle.diffs.specs.Diff.{Sum}
-use Rattle.diffs.specs.Answer.{at, diffAt}
-use Rattle.diffs.specs.Steps.{up, down}
+use Rattle.diffs.specs.inner.Answer.{cell, diffAt}
+use Rattle.diffs.specs.inner.Steps.{up, down, mostDown}
 use Rattle.diffs.proofs.Integers.{add-most}
 use Rattle.diffs.proofs.Signs.{up-small, down-small}
 
@@ -19,18 +20,18 @@ fits-of : (z : ℤ) → up z < 2 ^ 63 → down z < 2 ^ 63 → SFits w64 z
 fits-of (pos n) h g = record { sfits = h }
 fits-of (negsuc n) h g = record { sfits = omega arith }
 
-slice-more : (w : List ℕ) (i end : ℕ) → 0 < i → i ≤ end → end ≤ length w → slice (i - 1) end w ≡ at w (i - 1) ∷ slice i end w
+slice-more : (w : List ℕ) (i end : ℕ) → 0 < i → i ≤ end → end ≤ length w → slice (i - 1) end w ≡ cell w (i - 1) ∷ slice i end w
 slice-more w i end p h g =
     let e : suc (i - 1) ≡ i = omega arith in
-    slice-cons (i - 1) end w 0 (omega arith) g ∙ ap (λ (n : ℕ). at w (i - 1) ∷ slice n end w) e
+    slice-cons (i - 1) end w 0 (omega arith) g ∙ ap (λ (n : ℕ). cell w (i - 1) ∷ slice n end w) e
 
 -- z is the sum of the bounds from place i on
 pub record Summed (ks : List ℤ) (w : List ℕ) (start end i : ℕ) (z : ℤ) : Type 0 where
   pub from : start ≤ i
   pub upto : i ≤ end
   pub is : (xs ys : List ℕ) → z ≡ Sum (map (diffAt xs ys ks) (slice i end w))
-  pub high : up z ≤ (end - i) * 2147483648
-  pub low : down z ≤ (end - i) * 2147483648
+  pub high : up z ≤ (end - i) * mostDown
+  pub low : down z ≤ (end - i) * mostDown
 
 module _ (ks : List ℤ) (w : List ℕ) (start end : ℕ) where
   pub begun : start < end → Summed ks w start end end (pos 0)
@@ -42,16 +43,16 @@ module _ (ks : List ℤ) (w : List ℕ) (start end : ℕ) where
     low = omega arith;
   }
 
-  module _ (i : ℕ) (z k : ℤ) (v : Summed ks w start end i z) (h : start < i) (e : k ≡ getD ks (at w (i - 1)) (pos 0)) (f : SFits w32 (getD ks (at w (i - 1)) (pos 0))) where
-    small : (up k ≤ 2147483648) × (down k ≤ 2147483648)
+  module _ (i : ℕ) (z k : ℤ) (v : Summed ks w start end i z) (h : start < i) (e : k ≡ getD ks (cell w (i - 1)) (pos 0)) (f : SFits w32 (getD ks (cell w (i - 1)) (pos 0))) where
+    small : (up k ≤ mostDown) × (down k ≤ mostDown)
     small =
         let g : SFits w32 k = subst (λ (y : ℤ). SFits w32 y) (sym e) f in
         (omega (arith, up-small k g), down-small k g)
 
-    pub fits-sum : end ≤ 1024 → SFits w64 (k +ℤ z)
+    pub fits-sum : end ≤ termPlaces → SFits w64 (k +ℤ z)
     fits-sum g = fits-of (k +ℤ z) (omega (arith, add-most k z, small, v .high)) (omega (arith, add-most k z, small, v .low))
 
-    pub summed-more : end ≤ 1024 → end ≤ length w → Summed ks w start end (i - 1) (toZ w64 (ofZ w64 (k +ℤ z)))
+    pub summed-more : end ≤ termPlaces → end ≤ length w → Summed ks w start end (i - 1) (toZ w64 (ofZ w64 (k +ℤ z)))
     summed-more g l =
         subst (λ (y : ℤ). Summed ks w start end (i - 1) y) (sym (toZ-ofZ (fits-sum g)))
         (record {

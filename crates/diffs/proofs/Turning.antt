@@ -7,7 +7,7 @@ use lib.ListN.{length-append}
 use lib.IntN.{ℤ, pos, _+ℤ_, +ℤ-idl, +ℤ-assoc, +ℤ-comm}
 use lib.Signed.{_<ℤ_}
 use Rattle.basics.specs.Lists.{Distinct}
-use Rattle.diffs.specs.Diff.{Diff, Path, firsts, Sum, NegCycle}
+use Rattle.diffs.specs.Diff.{Diff, Path, xsOf, Sum, NegCycle}
 use Rattle.diffs.proofs.Names.{all-swap, distinct-swap}
 
 path-join : (a : ℕ) (l : List Diff) (b : ℕ) (r : List Diff) (z : ℕ) → Path a l b → Path b r z → Path a (l ++ r) z
@@ -37,7 +37,7 @@ turn S l r c =
         some = omega (arith, c .cycle .some, length-append l r, length-append r l);
         start = q .0;
         closed = path-join (q .0) r (c .cycle .start) l (q .0) (q .2) (q .1);
-        different = subst Distinct (sym (map-append (λ (d : Diff). d .x) r l)) (distinct-swap (firsts l) (firsts r) (subst Distinct (map-append (λ (d : Diff). d .x) l r) (c .cycle .different)));
+        different = subst Distinct (sym (map-append (λ (d : Diff). d .x) r l)) (distinct-swap (xsOf l) (xsOf r) (subst Distinct (map-append (λ (d : Diff). d .x) l r) (c .cycle .different)));
       };
       below = subst (λ (z : ℤ). z <ℤ pos 0) (sum-swap l r) (c .below);
     }

@@ -1,5 +1,5 @@
--- Differences x - y ≤ k between times, what it is for times to keep them, the earliest times, and a negative cycle: document 01, 'Meaning'.
--- All are over a set S of differences in force, `S : Diff → Type 0`.
+-- Believed: differences x - y ≤ k between times, what it is for times to keep them, the earliest times, and a negative cycle: document 01, 'Meaning'.
+-- All are over a set S of differences in force, `S : Diff → Type 0`. Assumes nothing.
 use mathlib.Core.Path.{_≡_}
 use mathlib.Core.List.{List, [], _∷_, map}
 use Prim.Native.Nat.{ℕ, _≤_, _<_}
@@ -37,8 +37,8 @@ Path a [] b = a ≡ b
 Path a (d ∷ ds) b = (d .x ≡ a) × Path (d .y) ds b
 
 -- the names x1, x2, .., xn
-abbrev pub firsts : List Diff → List ℕ
-firsts ds = map (λ (d : Diff). d .x) ds
+abbrev pub xsOf : List Diff → List ℕ
+xsOf ds = map (λ (d : Diff). d .x) ds
 
 -- the sum of the bounds
 abbrev pub Sum : List Diff → ℤ
@@ -50,10 +50,15 @@ pub record Cycle (ds : List Diff) : Type 0 where
   pub some : 0 < length ds
   pub start : ℕ
   pub closed : Path start ds start
-  pub different : Distinct (firsts ds)
+  pub different : Distinct (xsOf ds)
 
 -- such a list of differences of S, whose bounds sum below zero
 pub record NegCycle (S : Diff → Type 0) (ds : List Diff) : Type 0 where
   pub members : All S ds
   pub cycle : Cycle ds
   pub below : Sum ds <ℤ pos 0
+
+-- no member is smaller than the first
+abbrev pub LeastFirst : List ℕ → Type 0
+LeastFirst [] = Unit {0}
+LeastFirst (a ∷ l) = All (λ b. a ≤ b) l

@@ -1,3 +1,3 @@
+-- The definitions that the contracts cite.
 pub mod Diff
-pub mod Answer
-pub mod Steps
+pub mod inner

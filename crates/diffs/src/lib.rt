@@ -2,14 +2,16 @@
 // Difference number i is xs[i] - ys[i] ≤ ks[i], and labels[i] is the number that shows it.
 ghost use mathlib.Core.Path.{_≡_};
 ghost use mathlib.Core.List.{List, map};
-ghost use Prim.Native.Nat.{ℕ, _+_, _-_, _<_, _≤_, _^_};
+ghost use Prim.Native.Nat.{ℕ, _-_, _<_, _≤_, _^_};
 ghost use lib.ListN.{length};
 ghost use lib.Seq.{slice};
+ghost use Rattle.faults.specs.inner.Places.{termPlaces};
 ghost use Rattle.diffs.specs.Diff.{Sum};
-ghost use Rattle.diffs.specs.Answer.{at, diffAt, Given, Decided};
-ghost use Rattle.diffs.specs.Steps.{up, down};
-ghost use Rattle.diffs.specs.Steps.{Relaxed, Underway, Passed, Fresh, Settled};
-ghost use Rattle.diffs.specs.Steps.{Found, Traceable, Traced, Numbers, Least, Laid};
+ghost use Rattle.diffs.specs.inner.Answer.{cell, diffAt, Given, Decided};
+ghost use Rattle.diffs.specs.inner.Steps.{up, down};
+ghost use Rattle.diffs.specs.inner.Steps.{Relaxed, Underway, RoundUpTo, Fresh, SettledOrStuck};
+ghost use Rattle.diffs.specs.inner.Steps.{FoundPlace, Traceable, Traced, Numbers, LeastLabel, Laid};
+use faults::TERM_PLACES;
 
 // What the bound k adds: k, or 0 where it is below 0.
 fn up_of(k: i32) -> u64
@@ -33,7 +35,7 @@ fn down_of(k: i32) -> u64
 // Whether x - y ≤ k, the difference of number i, was not kept: then y is raised to x - k, and i becomes its parent.
 fn relax(x: usize, y: usize, k: i32, i: u32, t: &mut [u64], p: &mut [u32]) -> bool
     requires { ⌜ (x < length (now t)) × (y < length (now t)) × (length (now p) ≡ length (now t)) ⌝ }
-    requires { ⌜ (at (now t) x < 2 ^ 62) × (at (now t) y < 2 ^ 62) ⌝ }
+    requires { ⌜ (cell (now t) x < 2 ^ 62) × (cell (now t) y < 2 ^ 62) ⌝ }
     ensures { λ r. ⌜ Relaxed r (record { x = x; y = y; k = k }) i (now (t .entry)) (now (p .entry)) (now (t .exit)) (now (p .exit)) ⌝ }
 {
     let u = up_of(k);
@@ -52,7 +54,7 @@ fn relax(x: usize, y: usize, k: i32, i: u32, t: &mut [u64], p: &mut [u32]) -> bo
 // Relaxes each difference once: the name raised last, or the count of names where none was raised.
 fn round(xs: &[u32], ys: &[u32], ks: &[i32], t: &mut [u64], p: &mut [u32]) -> usize
     requires { ⌜ Underway (now xs) (now ys) (now ks) (now t) (now p) ⌝ }
-    ensures { λ r. ⌜ Passed (length (now (ks .entry))) (length (now (t .entry))) (diffAt (now (xs .entry)) (now (ys .entry)) (now (ks .entry))) (length (now (ks .entry))) r (now (t .entry)) (now (p .entry)) (now (t .exit)) (now (p .exit)) ⌝ }
+    ensures { λ r. ⌜ RoundUpTo (length (now (ks .entry))) (length (now (t .entry))) (diffAt (now (xs .entry)) (now (ys .entry)) (now (ks .entry))) (length (now (ks .entry))) r (now (t .entry)) (now (p .entry)) (now (t .exit)) (now (p .exit)) ⌝ }
 {
     let mut last = t.len();
     let mut i: usize = 0;
@@ -70,7 +72,7 @@ fn round(xs: &[u32], ys: &[u32], ks: &[i32], t: &mut [u64], p: &mut [u32]) -> us
 // The count n of names, after the first round that raises nothing: t has the earliest times. Or the name that round n + 1 still raised.
 fn settle(xs: &[u32], ys: &[u32], ks: &[i32], t: &mut [u64], p: &mut [u32]) -> usize
     requires { ⌜ Fresh (now xs) (now ys) (now ks) (now t) (now p) ⌝ }
-    ensures { λ r. ⌜ Settled (length (now (ks .entry))) (length (now (t .entry))) (diffAt (now (xs .entry)) (now (ys .entry)) (now (ks .entry))) r (now (t .exit)) (now (p .exit)) ⌝ }
+    ensures { λ r. ⌜ SettledOrStuck (length (now (ks .entry))) (length (now (t .entry))) (diffAt (now (xs .entry)) (now (ys .entry)) (now (ks .entry))) r (now (t .exit)) (now (p .exit)) ⌝ }
 {
     let n = t.len();
     let mut last = n;
@@ -87,8 +89,8 @@ fn settle(xs: &[u32], ys: &[u32], ks: &[i32], t: &mut [u64], p: &mut [u32]) -> u
 
 // The first place of w, from `from` on, whose difference raises a; the length of w where there is none.
 fn find(ys: &[u32], w: &[u32], from: usize, a: usize) -> usize
-    requires { ⌜ (from ≤ length (now w)) × ((k : ℕ) → from ≤ k → k < length (now w) → at (now w) k < length (now ys)) ⌝ }
-    ensures { λ r. ⌜ Found (now (ys .entry)) (now (w .entry)) from a r ⌝ }
+    requires { ⌜ (from ≤ length (now w)) × ((k : ℕ) → from ≤ k → k < length (now w) → cell (now w) k < length (now ys)) ⌝ }
+    ensures { λ r. ⌜ FoundPlace (now (ys .entry)) (now (w .entry)) from a r ⌝ }
 {
     let mut q = from;
     while q < w.len() {
@@ -104,7 +106,7 @@ fn find(ys: &[u32], w: &[u32], from: usize, a: usize) -> usize
 
 // The sum of the bounds that a part of w lists.
 fn sum_of(ks: &[i32], w: &[u32], start: usize, end: usize) -> i64
-    requires { ⌜ Numbers (length (now ks)) (now w) start end × (end ≤ 1024) ⌝ }
+    requires { ⌜ Numbers (length (now ks)) (now w) start end × (end ≤ termPlaces) ⌝ }
     ensures { λ r. ⌜ ((xs ys : List ℕ) → r ≡ Sum (map (diffAt xs ys (now (ks .entry))) (slice start end (now (w .entry))))) ⌝ }
 {
     let mut sum: i64 = 0;
@@ -150,7 +152,7 @@ fn trace(xs: &[u32], ys: &[u32], ks: &[i32], p: &[u32], last: usize, w: &mut [u3
 // The place in a part of w whose label is the smallest.
 fn least(labels: &[u32], w: &[u32], start: usize, end: usize) -> usize
     requires { ⌜ Numbers (length (now labels)) (now w) start end ⌝ }
-    ensures { λ r. ⌜ Least (now (labels .entry)) (now (w .entry)) start end r ⌝ }
+    ensures { λ r. ⌜ LeastLabel (now (labels .entry)) (now (w .entry)) start end r ⌝ }
 {
     let mut q = start;
     let mut i = start + 1;
@@ -206,12 +208,12 @@ pub fn decide(
     requires { ⌜ Given (now xs) (now ys) (now ks) (now labels) (now t) (now room) ⌝ }
     ensures { λ r. ⌜ Decided r (length (now (ks .entry))) (diffAt (now (xs .entry)) (now (ys .entry)) (now (ks .entry))) (now (labels .entry)) (now (t .exit)) (now (room .entry)) (now (room .exit)) ⌝ }
 {
-    let mut p = [0u32; 1024];
+    let mut p = [0u32; TERM_PLACES];
     let last = settle(xs, ys, ks, t, &mut p);
     if last == t.len() {
         return Outcome::Times;
     }
-    let mut w = [0u32; 1024];
+    let mut w = [0u32; TERM_PLACES];
     let c = trace(xs, ys, ks, &p, last, &mut w);
     let start = c.start;
     let end = c.end;

@@ -1,9 +1,15 @@
--- An answer: a value, or a refusal with the paper's number and place. Assumes nothing.
+-- Believed: an answer: a value, or a refusal with the paper's number and place. Assumes nothing.
 use Prim.Native.Nat.{ℕ}
+use mathlib.Core.Bool.{Bool, true, false}
 
 pub data Answer (A : Type 0) : Type 0 where
   got : A → Answer A
   refused : (number place : ℕ) → Answer A
+
+-- whether it is a value
+abbrev pub isGot : {A : Type 0} → Answer A → Bool
+isGot (got a) = true
+isGot (refused k p) = false
 
 abbrev pub bind : {A B : Type 0} → Answer A → (A → Answer B) → Answer B
 bind (got a) f = f a

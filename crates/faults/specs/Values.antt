@@ -1,9 +1,8 @@
--- The paper's number of each kind, and the answer that each case of a step stands for. Assumes nothing.
+-- Believed: the paper's number of each kind, and the answer that each case of a step stands for. Assumes nothing.
 use Prim.Native.Nat.{ℕ}
 use Rattle.faults.specs.Answer.{Answer, got, refused}
 use Rattle.faults.specs.declared.Kind.{Kind}
 use Rattle.faults.specs.declared.Kind.the-variants.{Room, Long, Grammar, Carried, Bounds, Terms, Candidate, Broken, Unfounded, Cycle, Late, NotTable, NotNamed}
-use Rattle.faults.specs.declared.Refusal.{Refusal}
 use Rattle.faults.specs.declared.Step.{Step}
 use Rattle.faults.specs.declared.Step.the-variants.{Good, Refused}
 
@@ -25,8 +24,3 @@ number NotNamed = 21
 abbrev pub asStep : Step → Answer ℕ
 asStep (Good n) = got n
 asStep (Refused r) = refused (number (r .kind)) (r .place)
-
--- the refusal of a step that is one
-abbrev pub refusalOf : Step → Refusal
-refusalOf (Good n) = record { kind = Grammar; place = n }
-refusalOf (Refused r) = r

@@ -1,6 +1,8 @@
 // The paper's vocabulary: the kinds of refusal, a refusal with its place, the three countings.
 ghost use mathlib.Core.Path.{_≡_};
-ghost use Rattle.faults.specs.Values.{number, refusalOf};
+ghost use mathlib.Core.Bool.{false};
+ghost use Rattle.faults.specs.Answer.{isGot, refused};
+ghost use Rattle.faults.specs.Values.{number, asStep};
 
 // The bytes of the longest text.
 pub const LONGEST_TEXT: usize = 60000;
@@ -99,7 +101,8 @@ pub enum Step {
 impl Step {
     // The refusal of an answer that is one.
     pub fn refusal(self) -> Refusal
-        ensures { λ r. ⌜ r ≡ refusalOf self ⌝ }
+        requires { ⌜ isGot (asStep self) ≡ false ⌝ }
+        ensures { λ r. ⌜ asStep self ≡ refused (number (r .kind)) (r .place) ⌝ }
     {
         match self {
             Step::Good(n) => Refusal {

@@ -10,7 +10,7 @@ use native.Mathlib.Numerals.{add-one}
 use lib.ListN.{length, getD, drop, drop-of-length-le}
 use lib.Seq.{drop-cons}
 use Rattle.basics.specs.Bools.{pick}
-use Rattle.fields.specs.Fields.{allDigits, isDigit, value, isNatural}
+use Rattle.fields.specs.Fields.{zeroDigit, nineDigit, allDigits, isDigit, value, isNatural}
 
 module _ (s : List ℕ) (i : ℕ) where
   pub digits-out : length s ≤ i → allDigits (drop i s) ≡ true
@@ -29,7 +29,7 @@ module _ (s : List ℕ) (i : ℕ) where
   unfolding value
   value-out v h = rw (drop-of-length-le s h)
 
-  pub value-more : (v d : ℕ) → i < length s → d ≡ getD s i 0 - 48 → value v (drop i s) ≡ value (v * 10 + d) (drop (i + 1) s)
+  pub value-more : (v d : ℕ) → i < length s → d ≡ getD s i 0 - zeroDigit → value v (drop i s) ≡ value (v * 10 + d) (drop (i + 1) s)
   unfolding value
   value-more v d h e = rw (drop-cons s i 0 h, e, add-one)
 
@@ -37,7 +37,7 @@ module _ (s : List ℕ) (i : ℕ) where
 pub value-grows : (v : ℕ) (bs : List ℕ) → v ≤ value v bs
 unfolding value
 value-grows v [] = omega arith
-value-grows v (b ∷ bs) = omega (arith, value-grows (v * 10 + (b - 48)) bs)
+value-grows v (b ∷ bs) = omega (arith, value-grows (v * 10 + (b - zeroDigit)) bs)
 
 -- ---- which fields are naturals
 
@@ -46,13 +46,13 @@ unfolding isNatural
 natural-empty [] h = refl
 natural-empty (b ∷ bs) h = absurd (omega arith)
 
-pub natural-zero : (f : List ℕ) → (length f ≡ 0 → ⊥) → getD f 0 0 ≡ 48 → isNatural f ≡ eqb (length f) 1
+pub natural-zero : (f : List ℕ) → (length f ≡ 0 → ⊥) → getD f 0 0 ≡ zeroDigit → isNatural f ≡ eqb (length f) 1
 unfolding isNatural
 natural-zero [] h e = absurd (h refl)
 natural-zero (b ∷ []) h e = rw (eq-eqb _ _ e)
 natural-zero (b ∷ d ∷ bs) h e = rw (eq-eqb _ _ e) (sym (ne-eqb (suc (suc (length bs))) 1 (omega arith)))
 
-pub natural-other : (f : List ℕ) → (length f ≡ 0 → ⊥) → (getD f 0 0 ≡ 48 → ⊥) → isNatural f ≡ allDigits f
+pub natural-other : (f : List ℕ) → (length f ≡ 0 → ⊥) → (getD f 0 0 ≡ zeroDigit → ⊥) → isNatural f ≡ allDigits f
 unfolding isNatural
 natural-other [] h n = absurd (h refl)
 natural-other (b ∷ bs) h n = rw (ne-eqb _ _ n)
@@ -65,11 +65,11 @@ natural-some (b ∷ bs) h = omega arith
 pub two-digits : (f : List ℕ) → isNatural f ≡ true → value 0 f ≡ 10 → 1 < length f
 unfolding isNatural value allDigits
 two-digits [] h e = let z : _≡_ {A = ℕ} 0 1 = (cc) in absurd (omega arith)
-two-digits (b ∷ []) h e = go (eqb b 48) refl (leb 48 b) refl (leb b 57) refl h
+two-digits (b ∷ []) h e = go (eqb b zeroDigit) refl (leb zeroDigit b) refl (leb b nineDigit) refl h
   where
-    go : (t : Bool) → eqb b 48 ≡ t → (u : Bool) → leb 48 b ≡ u → (w : Bool) → leb b 57 ≡ w → pick t true ((u && w) && true) ≡ true → 1 < suc 0
-    go true p u q w r i = omega (arith, eqb-true b 48 p)
-    go false p true q true r i = omega (arith, leb-true b 57 r)
+    go : (t : Bool) → eqb b zeroDigit ≡ t → (u : Bool) → leb zeroDigit b ≡ u → (w : Bool) → leb b nineDigit ≡ w → pick t true ((u && w) && true) ≡ true → 1 < suc 0
+    go true p u q w r i = omega (arith, eqb-true b zeroDigit p)
+    go false p true q true r i = omega (arith, leb-true b nineDigit r)
     go false p true q false r i = let z : _≡_ {A = ℕ} 0 1 = (cc) in absurd (omega arith)
     go false p false q w r i = let z : _≡_ {A = ℕ} 0 1 = (cc) in absurd (omega arith)
 two-digits (b ∷ d ∷ bs) h e = omega arith

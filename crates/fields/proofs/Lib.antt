@@ -3,5 +3,5 @@ pub mod Runs
 pub mod Decimal
 pub mod Naturals
 pub mod Words
-pub mod Ahead
+pub mod Readers
 pub mod Taping

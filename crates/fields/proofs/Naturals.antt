@@ -3,7 +3,7 @@ use Prim.Native.Nat.{ℕ, _+_, _-_, _≤_, _<_, min}
 use mathlib.Core.Path.{_≡_, refl, sym, ap, _∙_}
 use mathlib.Core.List.{List}
 use mathlib.Core.Bool.{Bool, true, false}
-use borrow.Author.Tests.{eq-eqb, ne-eqb, eqb-true, le-leb, lt-leb, leb-true, ltb-true, ltb-false}
+use borrow.Author.Tests.{eq-eqb, ne-eqb, eqb-true, le-leb, lt-leb, ltb-true, ltb-false}
 use lib.Dec.{eqb, leb, ltb}
 use native.Mathlib.Omega.{arith}
 use lib.ListN.{length, take, drop, length-drop, List·getD-eq-default}
@@ -11,7 +11,7 @@ use Rattle.basics.specs.Bools.{pick}
 use Rattle.fields.specs.Reading.{found, fault}
 use Rattle.fields.specs.Fields.{field, isSeparator, isForbidden, plain, value, isNatural, natural, byteAt, byte}
 use Rattle.fields.proofs.Runs.{upTo-length, upTo-take}
-use Rattle.fields.proofs.Decimal.{natural-empty, natural-some, two-digits}
+use Rattle.fields.proofs.Decimal.{natural-empty, two-digits}
 
 module _ (s : List ℕ) (at e : ℕ) (ends : e ≡ at + length (field s at)) where
   field-part : take (e - at) (drop at s) ≡ field s at
@@ -94,22 +94,6 @@ module _ (b : ℕ) (s : List ℕ) (at : ℕ) where
       go : (t : Bool) → ltb at (length s) ≡ t → at < length s
       go true q = ltb-true at (length s) q
       go false q = absurd (omega (arith, byte-past s at (ltb-false at (length s) q)))
-
--- what a natural that was read is: within its range, of at least a byte, and in the text
-pub natural-within : (k most : ℕ) (s : List ℕ) (at v n : ℕ) → found v n ≡ natural k most s at → (v ≤ most) × (at < n) × (n ≤ length s)
-unfolding natural
-natural-within k most s at v n = go (isNatural (field s at)) refl (leb (value 0 (field s at)) most) refl
-  where
-    go : (t : Bool) → isNatural (field s at) ≡ t → (u : Bool) → leb (value 0 (field s at)) most ≡ u
-        → found v n ≡ pick t (pick u (found (value 0 (field s at)) (at + length (field s at))) (fault k at)) (fault 3 at)
-        → (v ≤ most) × (at < n) × (n ≤ length s)
-    go true p true q e =
-        let a : v ≡ value 0 (field s at) = (cc) in
-        let b : n ≡ at + length (field s at) = (cc) in
-        let l : at < n = omega (arith, natural-some (field s at) p) in
-        (omega (arith, leb-true (value 0 (field s at)) most q), l, field-within s at n b l)
-    go true p false q e = let z : _≡_ {A = ℕ} 0 1 = (cc) in absurd (omega arith)
-    go false p u q e = let z : _≡_ {A = ℕ} 0 1 = (cc) in absurd (omega arith)
 
 -- a number of two digits is of two bytes
 pub ten-far : (k most : ℕ) (s : List ℕ) (at v n : ℕ) → found v n ≡ natural k most s at → v ≡ 10 → at + 1 < n

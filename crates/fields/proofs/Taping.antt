@@ -1,24 +1,26 @@
 -- Laws of the tape: words that were written, and what it says of the reading. Assumes nothing.
 use Prim.Native.Nat.{ℕ, zero, suc, _+_, _-_, _≤_, _<_}
-use mathlib.Core.Path.{_≡_, refl, sym, ap}
+use mathlib.Core.Path.{_≡_, refl, sym}
 use mathlib.Core.List.{List, [], _∷_, _++_}
 use native.Mathlib.Omega.{arith}
 use native.Mathlib.Nat.{add-zero}
 use native.Mathlib.Numerals.{add-one}
 use lib.ListN.{length, set, length-append}
 use lib.Seq.{sets}
+use Rattle.basics.specs.Lists.{All}
 use Rattle.basics.proofs.Lists.{sets-append}
-use Rattle.fields.specs.Reading.{Reading, found, fault, bind}
-use Rattle.fields.specs.Fields.{byte, natural, nextNatural, item, items, counted}
-use Rattle.fields.specs.Tape.{written, onTape, bare, listed}
+use Rattle.fields.specs.Reading.{Reading, found, fault, andThen}
+use Rattle.fields.specs.Fields.{item, items}
+use Rattle.fields.specs.inner.Kept.{ItemKept}
+use Rattle.fields.specs.inner.Tape.{written, onTape, bare, listed}
 use Rattle.fields.specs.declared.Item.{Item}
-use Rattle.fields.proofs.Naturals.{natural-within}
+use Rattle.fields.proofs.Readers.{Reads, finds, stops, items-reads}
 
 -- ---- reading n items
 
 -- a word in front of the words of an answer, and that word stored first
 onTape-cons : (t : List ℕ) (o x : ℕ) (a : Reading (List ℕ))
-    → onTape bare t o (bind a (λ xs n. found (x ∷ xs) n)) ≡ onTape bare (set t o x) (o + 1) a
+    → onTape bare t o (andThen a (λ xs n. found (x ∷ xs) n)) ≡ onTape bare (set t o x) (o + 1) a
 unfolding onTape
 onTape-cons t o x (found xs n) =
     let e : o + suc (length xs) ≡ o + 1 + length xs = omega arith in
@@ -45,50 +47,17 @@ module _ (what : Item) (s : List ℕ) (at : ℕ) (t : List ℕ) (o : ℕ) where
 
 -- ---- a list behind its count
 
--- as many items are read as were asked for
-pub items-length : (what : Item) (n : ℕ) (s : List ℕ) (at : ℕ) (xs : List ℕ) (m : ℕ) → found xs m ≡ items what n s at → length xs ≡ n
-unfolding items
-items-length what zero s at xs m e = let z : xs ≡ [] = (cc) in rw z
-items-length what (suc n) s at xs m e = go (λ k ys l d. items-length what n s k ys l d) (item what s at) e
-  where
-    go₂ : (x : ℕ) (b : Reading (List ℕ)) → ((ys : List ℕ) (l : ℕ) → found ys l ≡ b → length ys ≡ n) → found xs m ≡ bind b (λ ys l. found (x ∷ ys) l) → length xs ≡ suc n
-    go₂ x (found ys l) h e = let z : xs ≡ x ∷ ys = (cc) in rw z (ap suc (h ys l refl))
-    go₂ x (fault k p) h e = let z : _≡_ {A = ℕ} 0 1 = (cc) in absurd (omega arith)
-
-    go : ((k : ℕ) (ys : List ℕ) (l : ℕ) → found ys l ≡ items what n s k → length ys ≡ n) → (a : Reading ℕ) → found xs m ≡ bind a (λ x k. bind (items what n s k) (λ ys l. found (x ∷ ys) l)) → length xs ≡ suc n
-    go r (found x k) e = go₂ x (items what n s k) (r k) e
-    go r (fault k p) e = let z : _≡_ {A = ℕ} 0 1 = (cc) in absurd (omega arith)
-
 -- the count stored, and the items behind it
 pub counted-items : (what : Item) (n : ℕ) (s : List ℕ) (at : ℕ) (t : List ℕ) (o : ℕ)
     → onTape bare (set t o n) (o + 1) (items what n s at) ≡ onTape listed t o (items what n s at)
 unfolding onTape
-counted-items what n s at t o = go (items what n s at) (items-length what n s at)
+counted-items what n s at t o = go (items-reads what n s at)
   where
-    go : (a : Reading (List ℕ)) → ((xs : List ℕ) (m : ℕ) → found xs m ≡ a → length xs ≡ n) → onTape bare (set t o n) (o + 1) a ≡ onTape listed t o a
-    go (found xs m) h =
-        let e : length xs ≡ n = h xs m refl in
+    go : {a : Reading (List ℕ)} → Reads (λ xs. All (ItemKept s what) xs × (length xs ≡ n)) s at n a → onTape bare (set t o n) (o + 1) a ≡ onTape listed t o a
+    go (finds {v = xs} h l w) =
         let d : o + suc (length xs) ≡ o + 1 + length xs = omega arith in
-        rw (d, e, add-one)
-    go (fault k p) h = refl
-
--- a number that was read is at most the bound
-pub nextNatural-within : (k most : ℕ) (s : List ℕ) (at v n : ℕ) → found v n ≡ nextNatural k most s at → v ≤ most
-unfolding nextNatural
-nextNatural-within k most s at v n = go (byte 32 s at)
-  where
-    go : (a : Reading Unit) → found v n ≡ bind a (λ u m. natural k most s m) → v ≤ most
-    go (found u m) e = natural-within k most s m v n e .0
-    go (fault i p) e = let z : _≡_ {A = ℕ} 0 1 = (cc) in absurd (omega arith)
-
--- a counted list has at most as many items as the bound says
-pub counted-few : (what : Item) (k most : ℕ) (s : List ℕ) (at : ℕ) (xs : List ℕ) (n : ℕ) → found xs n ≡ counted what k most s at → length xs ≤ most
-unfolding counted
-counted-few what k most s at xs n e = go (nextNatural k most s at) refl e
-  where
-    go : (a : Reading ℕ) → nextNatural k most s at ≡ a → found xs n ≡ bind a (λ c m. items what c s m) → length xs ≤ most
-    go (found c m) h e = omega (arith, items-length what c s m xs n e, nextNatural-within k most s at c m (sym h))
-    go (fault i p) h e = let z : _≡_ {A = ℕ} 0 1 = (cc) in absurd (omega arith)
+        rw (d, h .1, add-one)
+    go (stops b w) = refl
 
 -- ---- what is known where words were written
 
@@ -139,11 +108,11 @@ module _ (t : List ℕ) (o : ℕ) where
   unfolding onTape
   on-found words x n ws h e = rw (h .tape, h .next, e)
 
-  -- a list that is read behind the words so far, and what is made of it
-  pub on-last : {A : Type 0} (words : A → List ℕ) (make : List ℕ → A) (ws : List ℕ) (r : Reading (List ℕ)) {t′ : List ℕ} {o′ : ℕ} → On t o ws t′ o′
-      → ((xs : List ℕ) → words (make xs) ≡ ws ++ listed xs) → onTape listed t′ o′ r ≡ onTape words t o (bind r (λ xs n. found (make xs) n))
+  -- a part that is read behind the words so far, and what is made of it
+  pub on-last : {A B : Type 0} (words : A → List ℕ) (part : B → List ℕ) (make : B → A) (ws : List ℕ) (r : Reading B) {t′ : List ℕ} {o′ : ℕ} → On t o ws t′ o′
+      → ((b : B) → words (make b) ≡ ws ++ part b) → onTape part t′ o′ r ≡ onTape words t o (andThen r (λ b n. found (make b) n))
   unfolding onTape
-  on-last words make ws (found xs n) h e =
-      let m = on-more ws (listed xs) h refl refl in
-      rw (m .tape, m .next, e xs)
-  on-last words make ws (fault k p) h e = refl
+  on-last words part make ws (found b n) h e =
+      let m = on-more ws (part b) h refl refl in
+      rw (m .tape, m .next, e b)
+  on-last words part make ws (fault k p) h e = refl

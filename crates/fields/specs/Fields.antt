@@ -1,4 +1,4 @@
--- The fields of a line: document 01, 'Reading the text'. A field's form comes first, then whether it is carried, then its range;
+-- Believed: the fields of a line, document 01, 'Reading the text'. A field's form comes first, then whether it is carried, then its range;
 -- a separator is read before the field that follows it. Assumes nothing.
 use Prim.Native.Nat.{ℕ, zero, suc, _+_, _-_, _*_}
 use mathlib.Core.List.{List, [], _∷_}
@@ -6,11 +6,28 @@ use mathlib.Core.Bool.{Bool, true, false, _||_, _&&_}
 use lib.ListN.{length, getD, drop}
 use lib.Dec.{leb, ltb, eqb}
 use Rattle.basics.specs.Bools.{pick}
-use Rattle.fields.specs.Reading.{found, fault, Reader, bind, _>>=_, _>>_, pure, placed}
+use Rattle.faults.specs.Limits.{lastAtom, lastTerm, lastElement, mostCount}
+use Rattle.fields.specs.Reading.{found, fault, Reader, andThen, _>>=_, _>>_, pure, placed}
 use Rattle.fields.specs.declared.Item.{Item}
 use Rattle.fields.specs.declared.Item.the-variants as of
 
 -- ---- bytes
+
+abbrev pub space : ℕ
+space = 32
+
+-- the line end
+abbrev pub feed : ℕ
+feed = 10
+
+abbrev pub minusSign : ℕ
+minusSign = 45
+
+abbrev pub zeroDigit : ℕ
+zeroDigit = 48
+
+abbrev pub nineDigit : ℕ
+nineDigit = 57
 
 -- the byte at a place, and 0 past the end
 unfoldable pub byteAt : List ℕ → ℕ → ℕ
@@ -27,9 +44,9 @@ bytes (b ∷ bs) = do
   byte b
   bytes bs
 
--- every line is ended by byte 10
+-- every line is ended by a line feed
 unfoldable pub lineEnd : Reader Unit
-lineEnd = byte 10
+lineEnd = byte feed
 
 -- nothing stands at the place or after it
 unfoldable pub textEnd : Reader Unit
@@ -50,11 +67,11 @@ isEither x y b = eqb b x || eqb b y
 
 -- a space or a line end
 abbrev pub isSeparator : ℕ → Bool
-isSeparator = isEither 32 10
+isSeparator = isEither space feed
 
 -- no string and no comment holds these
 abbrev pub isForbidden : ℕ → Bool
-isForbidden = isEither 0 10
+isForbidden = isEither 0 feed
 
 -- a field runs to the next space, line end or end of text
 unfoldable pub field : List ℕ → ℕ → List ℕ
@@ -63,7 +80,7 @@ field s at = upTo isSeparator (drop at s)
 -- ---- naturals
 
 abbrev pub isDigit : ℕ → Bool
-isDigit b = leb 48 b && leb b 57
+isDigit b = leb zeroDigit b && leb b nineDigit
 
 unfoldable pub allDigits : List ℕ → Bool
 allDigits [] = true
@@ -76,12 +93,12 @@ isEmpty (b ∷ bs) = false
 -- `0`, or digits that don't begin with 0
 unfoldable pub isNatural : List ℕ → Bool
 isNatural [] = false
-isNatural (b ∷ bs) = pick (eqb b 48) (isEmpty bs) (allDigits (b ∷ bs))
+isNatural (b ∷ bs) = pick (eqb b zeroDigit) (isEmpty bs) (allDigits (b ∷ bs))
 
 -- the value of digits, after digits of the value v
 unfoldable pub value : ℕ → List ℕ → ℕ
 value v [] = v
-value v (b ∷ bs) = value (v * 10 + (b - 48)) bs
+value v (b ∷ bs) = value (v * 10 + (b - zeroDigit)) bs
 
 -- a natural at most `most`, refused by k beyond
 unfoldable pub natural : (k most : ℕ) → Reader ℕ
@@ -94,7 +111,7 @@ natural k most s at =
 -- a space, and what p reads after it
 abbrev pub next : {A : Type 0} → Reader A → Reader A
 next p = do
-  byte 32
+  byte space
   p
 
 unfoldable pub nextNatural : (k most : ℕ) → Reader ℕ
@@ -112,36 +129,36 @@ naturalThen k most b = do
 -- the minus sign that stands at the place, and a natural other than 0
 unfoldable pub negative : (most : ℕ) → Reader ℕ
 negative most s at =
-    bind (placed at (natural 5 most s (at + 1))) (λ v n. pick (eqb v 0) (fault 3 at) (found (2 * v + 1) n))
+    andThen (placed at (natural 5 most s (at + 1))) (λ v n. pick (eqb v 0) (fault 3 at) (found (2 * v + 1) n))
 
 -- a natural, or a minus sign and a natural other than 0: from - low to high
 unfoldable pub integer : (low high : ℕ) → Reader ℕ
 integer low high s at =
-    pick (eqb (byteAt s at) 45)
+    pick (eqb (byteAt s at) minusSign)
     (negative low s at)
-    (bind (natural 5 high s at) (λ v n. found (2 * v) n))
+    (andThen (natural 5 high s at) (λ v n. found (2 * v) n))
 
 unfoldable pub nextInteger : (low high : ℕ) → Reader ℕ
 nextInteger low high = next (integer low high)
 
 -- an integer other than 0, to an atom
 unfoldable pub literal : Reader ℕ
-literal s at = bind (integer 4096 4096 s at) (λ v n. pick (eqb v 0) (fault 5 at) (found v n))
+literal s at = andThen (integer lastAtom lastAtom s at) (λ v n. pick (eqb v 0) (fault 5 at) (found v n))
 
 -- ---- the three countings
 
--- an atom from 1 to 4,096; k is the refusal of atom 0
+-- an atom from 1 to the last; k is the refusal of atom 0
 unfoldable pub atom : (k : ℕ) → Reader ℕ
-atom k s at = bind (natural 5 4096 s at) (λ v n. pick (eqb v 0) (fault k at) (found v n))
+atom k s at = andThen (natural 5 lastAtom s at) (λ v n. pick (eqb v 0) (fault k at) (found v n))
 
 unfoldable pub nextAtom : (k : ℕ) → Reader ℕ
 nextAtom k = next (atom k)
 
 unfoldable pub nextTerm : Reader ℕ
-nextTerm = nextNatural 5 1023
+nextTerm = nextNatural 5 lastTerm
 
 unfoldable pub nextElement : Reader ℕ
-nextElement = nextNatural 5 1023
+nextElement = nextNatural 5 lastElement
 
 -- ---- counted lists and strings
 
@@ -174,10 +191,10 @@ counted what k most = do
 -- a length, a space and so many bytes
 unfoldable pub string : Reader (List ℕ)
 string = do
-  n ← naturalThen 5 4096 32
+  n ← naturalThen 5 mostCount space
   items of.Char n
 
--- how many bytes stand before the next byte 0 or 10, or the end
+-- how many bytes stand before the next byte that is forbidden, or the end
 unfoldable pub plain : List ℕ → ℕ → ℕ
 plain s at = length (upTo isForbidden (drop at s))
 

@@ -1,5 +1,4 @@
 -- The definitions that the contracts cite.
 pub mod Reading
 pub mod Fields
-pub mod Tape
-pub mod Values
+pub mod inner

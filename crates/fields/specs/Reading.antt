@@ -1,4 +1,4 @@
--- What reading a text from a place on gives, and how readers follow one another. Assumes nothing.
+-- Believed: what reading a text from a place on gives, and how readers follow one another. Assumes nothing.
 use Prim.Native.Nat.{ℕ}
 use mathlib.Core.List.{List}
 use mathlib.Core.Bool.{Bool, true, false}
@@ -17,13 +17,14 @@ abbrev pub isFound : {A : Type 0} → Reading A → Bool
 isFound (found a n) = true
 isFound (fault k p) = false
 
-abbrev pub bind : {A B : Type 0} → Reading A → (A → ℕ → Reading B) → Reading B
-bind (found a n) f = f a n
-bind (fault k p) f = fault k p
+-- what reading goes on to give after a value; a fault stays
+abbrev pub andThen : {A B : Type 0} → Reading A → (A → ℕ → Reading B) → Reading B
+andThen (found a n) f = f a n
+andThen (fault k p) f = fault k p
 
 infixl 10 _>>=_
 abbrev pub _>>=_ : {A B : Type 0} → Reader A → (A → Reader B) → Reader B
-_>>=_ p f s at = bind (p s at) (λ a n. f a s n)
+_>>=_ p f s at = andThen (p s at) (λ a n. f a s n)
 
 infixl 10 _>>_
 abbrev pub _>>_ : {A B : Type 0} → Reader A → Reader B → Reader B

@@ -2,10 +2,15 @@
 ghost use mathlib.Core.Path.{_≡_};
 ghost use Prim.Native.Nat.{_+_, _-_, _≤_, min};
 ghost use lib.ListN.{length, drop};
-ghost use Rattle.fields.specs.Fields.{byteAt, upTo, isEither, field, allDigits, isNatural, value};
+ghost use Rattle.fields.specs.Fields.{byteAt, upTo, isEither, field, zeroDigit, allDigits, isNatural, value};
+ghost use Rattle.fields.specs.inner.Bounds.{largestBound};
+use crate::FEED;
+use crate::NINE_DIGIT;
+use crate::SPACE;
+use crate::ZERO_DIGIT;
 
 // The byte at `at`, or 0 past the end.
-pub fn peek(s: &[u8], at: usize) -> u8
+pub(crate) fn peek(s: &[u8], at: usize) -> u8
     ensures { λ r. ⌜ r ≡ byteAt (now (s .entry)) at ⌝ }
 {
     if at < s.len() { s[at] } else { 0 }
@@ -30,10 +35,10 @@ pub fn run_end(s: &[u8], at: usize, x: u8, y: u8) -> usize
 }
 
 // Where the field that starts at `at` ends.
-pub fn field_end(s: &[u8], at: usize) -> usize
+pub(crate) fn field_end(s: &[u8], at: usize) -> usize
     ensures { λ r. ⌜ r ≡ at + length (field (now (s .entry)) at) ⌝ }
 {
-    run_end(s, at, 32, 10)
+    run_end(s, at, SPACE, FEED)
 }
 
 // Whether each byte of `f` is a digit.
@@ -43,10 +48,10 @@ fn all_digits(f: &[u8]) -> bool
     let mut i = 0;
     while i < f.len() {
         let b = f[i];
-        if b < 48 {
+        if b < ZERO_DIGIT {
             return false;
         }
-        if 57 < b {
+        if NINE_DIGIT < b {
             return false;
         }
         i += 1;
@@ -55,38 +60,43 @@ fn all_digits(f: &[u8]) -> bool
 }
 
 // Whether `f` is a natural: `0`, or digits that don't begin with 0.
-pub fn is_natural(f: &[u8]) -> bool
+pub(crate) fn is_natural(f: &[u8]) -> bool
     ensures { λ r. ⌜ r ≡ isNatural (now (f .entry)) ⌝ }
 {
     if f.len() == 0 {
         return false;
     }
-    if f[0] == 48 {
+    if f[0] == ZERO_DIGIT {
         return f.len() == 1;
     }
     all_digits(f)
 }
 
 // The value of a digit.
-fn digit(b: u8) -> u32
-    ensures { λ r. ⌜ r ≡ b - 48 ⌝ }
+fn digit(b: u8) -> u64
+    ensures { λ r. ⌜ r ≡ b - zeroDigit ⌝ }
 {
-    if b < 48 { 0 } else { (b - 48) as u32 }
+    if b < ZERO_DIGIT {
+        0
+    } else {
+        (b - ZERO_DIGIT) as u64
+    }
 }
 
 // The value of the digits `f`, or one more than `most` where it is beyond that.
-pub fn value_of(f: &[u8], most: u32) -> u32
-    requires { ⌜ most ≤ 1000000 ⌝ }
+pub(crate) fn value_of(f: &[u8], most: u32) -> u32
+    requires { ⌜ most ≤ largestBound ⌝ }
     ensures { λ r. ⌜ r ≡ min (value 0 (now (f .entry))) (most + 1) ⌝ }
 {
-    let mut v: u32 = 0;
+    let bound = most as u64;
+    let mut v: u64 = 0;
     let mut i = 0;
     while i < f.len() {
         v = v * 10 + digit(f[i]);
-        if most < v {
+        if bound < v {
             return most + 1;
         }
         i += 1;
     }
-    v
+    v as u32
 }

@@ -1,15 +1,36 @@
 // A cursor on a text, and the fields of a line: each method takes the cursor and gives the field with the next cursor.
 ghost use mathlib.Core.Path.{_≡_};
-ghost use Rattle.fields.specs.Values.{refusalOfPassed, refusalOfWord, refusalOfAtom, refusalOfTerm, refusalOfElement, refusalOfWrote};
+ghost use mathlib.Core.Bool.{false};
+ghost use mathlib.Core.List.{List};
+ghost use Prim.Native.Nat.{ℕ};
+ghost use Rattle.fields.specs.Reading.{isFound};
+ghost use Rattle.fields.specs.inner.Values.{faultOf, asPassed, asWord, asAtom, asTerm, asElement, asWrote};
 use faults::AtomNo;
 use faults::ElementNo;
 use faults::Kind;
 use faults::Refusal;
 use faults::TermNo;
 
-pub mod digits;
-pub mod number;
-pub mod tape;
+mod digits;
+mod number;
+mod tape;
+
+pub use crate::digits::run_end;
+
+// The space.
+pub const SPACE: u8 = 32;
+
+// The line end.
+pub const FEED: u8 = 10;
+
+// The minus sign.
+const MINUS_SIGN: u8 = 45;
+
+// The digit 0.
+const ZERO_DIGIT: u8 = 48;
+
+// The digit 9.
+const NINE_DIGIT: u8 = 57;
 
 // A place in the text.
 pub struct Cursor {
@@ -61,26 +82,17 @@ pub enum Item {
     Char,
 }
 
-impl Cursor {
-    // What stands for the refusal of an answer that is none.
-    fn none(self) -> Refusal
-        ensures { λ r. ⌜ r ≡ record { kind = Kind.Grammar; place = self .at } ⌝ }
-    {
-        let place = self.at;
-        Refusal {
-            kind: Kind::Grammar,
-            place,
-        }
-    }
-}
-
 impl Passed {
     // The refusal of an answer that is one.
     pub fn refusal(self) -> Refusal
-        ensures { λ r. ⌜ r ≡ refusalOfPassed self ⌝ }
+        requires { ⌜ isFound (asPassed self) ≡ false ⌝ }
+        ensures { λ r. ⌜ asPassed self ≡ faultOf r ⌝ }
     {
         match self {
-            Passed::Got(c) => c.none(),
+            Passed::Got(c) => Refusal {
+                kind: Kind::Grammar,
+                place: c.at,
+            },
             Passed::Refused(r) => r,
         }
     }
@@ -89,10 +101,14 @@ impl Passed {
 impl WordField {
     // The refusal of an answer that is one.
     pub fn refusal(self) -> Refusal
-        ensures { λ r. ⌜ r ≡ refusalOfWord self ⌝ }
+        requires { ⌜ isFound (asWord self) ≡ false ⌝ }
+        ensures { λ r. ⌜ asWord self ≡ faultOf r ⌝ }
     {
         match self {
-            WordField::Got(_, c) => c.none(),
+            WordField::Got(_, c) => Refusal {
+                kind: Kind::Grammar,
+                place: c.at,
+            },
             WordField::Refused(r) => r,
         }
     }
@@ -101,10 +117,14 @@ impl WordField {
 impl AtomField {
     // The refusal of an answer that is one.
     pub fn refusal(self) -> Refusal
-        ensures { λ r. ⌜ r ≡ refusalOfAtom self ⌝ }
+        requires { ⌜ isFound (asAtom self) ≡ false ⌝ }
+        ensures { λ r. ⌜ asAtom self ≡ faultOf r ⌝ }
     {
         match self {
-            AtomField::Got(_, c) => c.none(),
+            AtomField::Got(_, c) => Refusal {
+                kind: Kind::Grammar,
+                place: c.at,
+            },
             AtomField::Refused(r) => r,
         }
     }
@@ -113,10 +133,14 @@ impl AtomField {
 impl TermField {
     // The refusal of an answer that is one.
     pub fn refusal(self) -> Refusal
-        ensures { λ r. ⌜ r ≡ refusalOfTerm self ⌝ }
+        requires { ⌜ isFound (asTerm self) ≡ false ⌝ }
+        ensures { λ r. ⌜ asTerm self ≡ faultOf r ⌝ }
     {
         match self {
-            TermField::Got(_, c) => c.none(),
+            TermField::Got(_, c) => Refusal {
+                kind: Kind::Grammar,
+                place: c.at,
+            },
             TermField::Refused(r) => r,
         }
     }
@@ -125,10 +149,14 @@ impl TermField {
 impl ElementField {
     // The refusal of an answer that is one.
     pub fn refusal(self) -> Refusal
-        ensures { λ r. ⌜ r ≡ refusalOfElement self ⌝ }
+        requires { ⌜ isFound (asElement self) ≡ false ⌝ }
+        ensures { λ r. ⌜ asElement self ≡ faultOf r ⌝ }
     {
         match self {
-            ElementField::Got(_, c) => c.none(),
+            ElementField::Got(_, c) => Refusal {
+                kind: Kind::Grammar,
+                place: c.at,
+            },
             ElementField::Refused(r) => r,
         }
     }
@@ -137,10 +165,14 @@ impl ElementField {
 impl Wrote {
     // The refusal of an answer that is one.
     pub fn refusal(self) -> Refusal
-        ensures { λ r. ⌜ r ≡ refusalOfWrote self ⌝ }
+        requires { ⌜ ((t : List ℕ) → isFound (asWrote self t) ≡ false) ⌝ }
+        ensures { λ r. ⌜ ((t : List ℕ) → asWrote self t ≡ faultOf r) ⌝ }
     {
         match self {
-            Wrote::Got(c, _) => c.none(),
+            Wrote::Got(c, _) => Refusal {
+                kind: Kind::Grammar,
+                place: c.at,
+            },
             Wrote::Refused(r) => r,
         }
     }

@@ -3,13 +3,18 @@ ghost use mathlib.Core.Path.{_≡_};
 ghost use Prim.Native.Nat.{_+_, _≤_, _<_};
 ghost use mathlib.Core.Bool.{true};
 ghost use lib.ListN.{length};
+ghost use Rattle.faults.specs.Limits.{largestNumber};
 ghost use Rattle.faults.specs.Values.{number};
 ghost use Rattle.fields.specs.Fields.{allPositive, byteAt, byte, bytes, lineEnd, textEnd, natural, nextNatural, naturalThen, field, negative, integer, nextInteger, literal, atom, nextAtom, nextTerm, nextElement, next};
-ghost use Rattle.fields.specs.Values.{asPassed, asWord, asAtom, asTerm, asElement};
+ghost use Rattle.fields.specs.inner.Bounds.{largestBound};
+ghost use Rattle.fields.specs.inner.Values.{asPassed, asWord, asAtom, asTerm, asElement};
 use crate::AtomField;
 use crate::Cursor;
 use crate::ElementField;
+use crate::FEED;
+use crate::MINUS_SIGN;
 use crate::Passed;
+use crate::SPACE;
 use crate::TermField;
 use crate::WordField;
 use crate::digits::field_end;
@@ -19,6 +24,9 @@ use crate::digits::value_of;
 use faults::AtomNo;
 use faults::ElementNo;
 use faults::Kind;
+use faults::LAST_ATOM;
+use faults::LAST_ELEMENT;
+use faults::LAST_TERM;
 use faults::Refusal;
 use faults::TermNo;
 
@@ -94,7 +102,7 @@ impl Cursor {
     pub fn line_end(self, s: &[u8]) -> Passed
         ensures { λ r. ⌜ asPassed r ≡ lineEnd (now (s .entry)) (self .at) ⌝ }
     {
-        self.byte(s, 10)
+        self.byte(s, FEED)
     }
 
     // The end of the text.
@@ -113,7 +121,7 @@ impl Cursor {
 
     // The natural at the cursor, at most `most`, and refused as `beyond` where it is more.
     pub fn natural(self, s: &[u8], most: u32, beyond: Kind) -> WordField
-        requires { ⌜ most ≤ 1000000 ⌝ }
+        requires { ⌜ most ≤ largestBound ⌝ }
         ensures { λ r. ⌜ asWord r ≡ natural (number beyond) most (now (s .entry)) (self .at) ⌝ }
     {
         let at = self.at;
@@ -144,10 +152,10 @@ impl Cursor {
 
     // A space, and the natural after it.
     pub fn next_natural(self, s: &[u8], most: u32, beyond: Kind) -> WordField
-        requires { ⌜ most ≤ 1000000 ⌝ }
+        requires { ⌜ most ≤ largestBound ⌝ }
         ensures { λ r. ⌜ asWord r ≡ nextNatural (number beyond) most (now (s .entry)) (self .at) ⌝ }
     {
-        let a = self.byte(s, 32);
+        let a = self.byte(s, SPACE);
         let Passed::Got(c) = a else {
             return WordField::Refused(a.refusal());
         };
@@ -156,7 +164,7 @@ impl Cursor {
 
     // A space, a natural, and the byte `b`, which is not 0, behind it.
     pub fn natural_then(self, s: &[u8], most: u32, beyond: Kind, b: u8) -> WordField
-        requires { ⌜ (most ≤ 1000000) × (0 < b) ⌝ }
+        requires { ⌜ (most ≤ largestBound) × (0 < b) ⌝ }
         ensures { λ r. ⌜ asWord r ≡ naturalThen (number beyond) most b (now (s .entry)) (self .at) ⌝ }
     {
         let a = self.next_natural(s, most, beyond);
@@ -172,7 +180,7 @@ impl Cursor {
 
     // The natural after the minus at the cursor, as 2 v + 1.
     fn minus(self, s: &[u8], most: u32) -> WordField
-        requires { ⌜ (most ≤ 1000000) × (self .at < length (now s)) ⌝ }
+        requires { ⌜ (most ≤ largestNumber) × (self .at < length (now s)) ⌝ }
         ensures { λ r. ⌜ asWord r ≡ negative most (now (s .entry)) (self .at) ⌝ }
     {
         let at = self.at;
@@ -197,11 +205,11 @@ impl Cursor {
 
     // An integer from - low to high, as 2 v, or 2 v + 1 after a minus.
     fn integer(self, s: &[u8], low: u32, high: u32) -> WordField
-        requires { ⌜ (low ≤ 1000000) × (high ≤ 1000000) ⌝ }
+        requires { ⌜ (low ≤ largestNumber) × (high ≤ largestNumber) ⌝ }
         ensures { λ r. ⌜ asWord r ≡ integer low high (now (s .entry)) (self .at) ⌝ }
     {
         let at = self.at;
-        if peek(s, at) == 45 {
+        if peek(s, at) == MINUS_SIGN {
             return self.minus(s, low);
         }
         let a = self.natural(s, high, Kind::Bounds);
@@ -214,10 +222,10 @@ impl Cursor {
 
     // A space, and the integer after it.
     pub fn next_integer(self, s: &[u8], low: u32, high: u32) -> WordField
-        requires { ⌜ (low ≤ 1000000) × (high ≤ 1000000) ⌝ }
+        requires { ⌜ (low ≤ largestNumber) × (high ≤ largestNumber) ⌝ }
         ensures { λ r. ⌜ asWord r ≡ nextInteger low high (now (s .entry)) (self .at) ⌝ }
     {
-        let a = self.byte(s, 32);
+        let a = self.byte(s, SPACE);
         let Passed::Got(c) = a else {
             return WordField::Refused(a.refusal());
         };
@@ -228,7 +236,7 @@ impl Cursor {
     fn literal(self, s: &[u8]) -> WordField
         ensures { λ r. ⌜ asWord r ≡ literal (now (s .entry)) (self .at) ⌝ }
     {
-        let a = self.integer(s, 4096, 4096);
+        let a = self.integer(s, LAST_ATOM, LAST_ATOM);
         let WordField::Got(v, n) = a else {
             return a;
         };
@@ -243,10 +251,10 @@ impl Cursor {
     }
 
     // A space, and the literal after it.
-    pub fn next_literal(self, s: &[u8]) -> WordField
+    pub(crate) fn next_literal(self, s: &[u8]) -> WordField
         ensures { λ r. ⌜ asWord r ≡ next literal (now (s .entry)) (self .at) ⌝ }
     {
-        let a = self.byte(s, 32);
+        let a = self.byte(s, SPACE);
         let Passed::Got(c) = a else {
             return WordField::Refused(a.refusal());
         };
@@ -254,10 +262,10 @@ impl Cursor {
     }
 
     // An atom: a natural other than 0, which is refused as `zero`.
-    pub fn atom(self, s: &[u8], zero: Kind) -> AtomField
+    fn atom(self, s: &[u8], zero: Kind) -> AtomField
         ensures { λ r. ⌜ asAtom r ≡ atom (number zero) (now (s .entry)) (self .at) ⌝ }
     {
-        let a = self.natural(s, 4096, Kind::Bounds);
+        let a = self.natural(s, LAST_ATOM, Kind::Bounds);
         let WordField::Got(v, n) = a else {
             return AtomField::Refused(a.refusal());
         };
@@ -275,7 +283,7 @@ impl Cursor {
     pub fn next_atom(self, s: &[u8], zero: Kind) -> AtomField
         ensures { λ r. ⌜ asAtom r ≡ nextAtom (number zero) (now (s .entry)) (self .at) ⌝ }
     {
-        let a = self.byte(s, 32);
+        let a = self.byte(s, SPACE);
         let Passed::Got(c) = a else {
             return AtomField::Refused(a.refusal());
         };
@@ -286,7 +294,7 @@ impl Cursor {
     pub fn next_term(self, s: &[u8]) -> TermField
         ensures { λ r. ⌜ asTerm r ≡ nextTerm (now (s .entry)) (self .at) ⌝ }
     {
-        let a = self.next_natural(s, 1023, Kind::Bounds);
+        let a = self.next_natural(s, LAST_TERM, Kind::Bounds);
         let WordField::Got(u, c) = a else {
             return TermField::Refused(a.refusal());
         };
@@ -297,7 +305,7 @@ impl Cursor {
     pub fn next_element(self, s: &[u8]) -> ElementField
         ensures { λ r. ⌜ asElement r ≡ nextElement (now (s .entry)) (self .at) ⌝ }
     {
-        let a = self.next_natural(s, 1023, Kind::Bounds);
+        let a = self.next_natural(s, LAST_ELEMENT, Kind::Bounds);
         let WordField::Got(v, c) = a else {
             return ElementField::Refused(a.refusal());
         };

@@ -2,20 +2,23 @@
 ghost use mathlib.Core.Path.{_≡_};
 ghost use Prim.Native.Nat.{_≤_, _<_};
 ghost use lib.ListN.{length};
+ghost use Rattle.faults.specs.Limits.{mostCount};
 ghost use Rattle.faults.specs.Values.{number};
 ghost use Rattle.fields.specs.Fields.{char, item, items, counted, rest};
-ghost use Rattle.fields.specs.Tape.{onTape, bare, listed};
-ghost use Rattle.fields.specs.Values.{asWord, asWrote, roomy};
+ghost use Rattle.fields.specs.inner.Bounds.{longestRead};
+ghost use Rattle.fields.specs.inner.Tape.{onTape, bare, listed};
+ghost use Rattle.fields.specs.inner.Values.{asWord, asWrote, roomy};
 use crate::AtomField;
 use crate::Cursor;
-use crate::ElementField;
+use crate::FEED;
 use crate::Item;
-use crate::TermField;
 use crate::WordField;
 use crate::Wrote;
 use crate::digits::peek;
 use crate::digits::run_end;
 use faults::Kind;
+use faults::LAST_ELEMENT;
+use faults::LAST_TERM;
 use faults::Refusal;
 
 impl Cursor {
@@ -31,7 +34,7 @@ impl Cursor {
                 place: at,
             });
         }
-        if b == 10 {
+        if b == FEED {
             return WordField::Refused(Refusal {
                 kind: Kind::Grammar,
                 place: at,
@@ -52,28 +55,6 @@ impl Cursor {
         WordField::Got(x.0, c)
     }
 
-    // A term number, as a word.
-    fn term_word(self, s: &[u8]) -> WordField
-        ensures { λ r. ⌜ asWord r ≡ item Item.Term (now (s .entry)) (self .at) ⌝ }
-    {
-        let a = self.next_term(s);
-        let TermField::Got(u, c) = a else {
-            return WordField::Refused(a.refusal());
-        };
-        WordField::Got(u.0, c)
-    }
-
-    // An element number, as a word.
-    fn element_word(self, s: &[u8]) -> WordField
-        ensures { λ r. ⌜ asWord r ≡ item Item.Element (now (s .entry)) (self .at) ⌝ }
-    {
-        let a = self.next_element(s);
-        let ElementField::Got(v, c) = a else {
-            return WordField::Refused(a.refusal());
-        };
-        WordField::Got(v.0, c)
-    }
-
     // An item of a list, as a word.
     fn item(self, s: &[u8], what: Item) -> WordField
         ensures { λ r. ⌜ asWord r ≡ item what (now (s .entry)) (self .at) ⌝ }
@@ -81,8 +62,8 @@ impl Cursor {
         match what {
             Item::Atom => self.atom_word(s),
             Item::Literal => self.next_literal(s),
-            Item::Term => self.term_word(s),
-            Item::Element => self.element_word(s),
+            Item::Term => self.next_natural(s, LAST_TERM, Kind::Bounds),
+            Item::Element => self.next_natural(s, LAST_ELEMENT, Kind::Bounds),
             Item::Char => self.char_at(s),
         }
     }
@@ -130,7 +111,7 @@ impl Cursor {
         tape: &mut [u32],
         out: usize,
     ) -> Wrote
-        requires { ⌜ (most ≤ 4096) × (out ≤ self .at) × (length (now s) ≤ length (now tape)) ⌝ }
+        requires { ⌜ (most ≤ mostCount) × (out ≤ self .at) × (length (now s) ≤ length (now tape)) ⌝ }
         ensures { λ r. ⌜ asWrote r (now (tape .exit)) ≡ onTape listed (now (tape .entry)) out (counted what (number beyond) most (now (s .entry)) (self .at)) ⌝ }
         ensures { λ r. ⌜ roomy r ⌝ }
     {
@@ -143,12 +124,12 @@ impl Cursor {
 
     // The bytes up to the line end behind their count, as words from `out` on.
     pub fn rest(self, s: &[u8], tape: &mut [u32], out: usize) -> Wrote
-        requires { ⌜ (out < self .at) × (self .at ≤ length (now s)) × (length (now s) ≤ length (now tape)) × (length (now s) ≤ 60000) ⌝ }
+        requires { ⌜ (out < self .at) × (self .at ≤ length (now s)) × (length (now s) ≤ length (now tape)) × (length (now s) ≤ longestRead) ⌝ }
         ensures { λ r. ⌜ asWrote r (now (tape .exit)) ≡ onTape listed (now (tape .entry)) out (rest (now (s .entry)) (self .at)) ⌝ }
         ensures { λ r. ⌜ roomy r ⌝ }
     {
         let at = self.at;
-        let end = run_end(s, at, 0, 10);
+        let end = run_end(s, at, 0, FEED);
         let size = end - at;
         let n = size as u32;
         self.listed(s, Item::Char, n, tape, out)

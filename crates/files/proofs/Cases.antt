@@ -8,12 +8,12 @@ use borrow.Author.Tests.{eqb-true}
 use lib.Dec.{eqb, lit<}
 use lib.ListN.{length}
 use Rattle.basics.specs.Bools.{pick}
-use Rattle.fields.specs.Reading.{Reading, found, fault, bind}
-use Rattle.fields.specs.Fields.{byteAt, byte, field, nextNatural, naturalThen}
+use Rattle.faults.specs.Limits.{longestText}
+use Rattle.fields.specs.Reading.{Reading, found, fault}
+use Rattle.fields.specs.Fields.{feed, byteAt, field, naturalThen}
 use Rattle.fields.proofs.Naturals.{there}
-use Rattle.fields.proofs.Taping.{nextNatural-within}
-use Rattle.fields.proofs.Ahead.{nextNatural-far, byte-ahead}
-use Rattle.files.specs.Cases.{caseOf, caseAt, nextAt}
+use Rattle.fields.proofs.Readers.{by-bounds, reads-ends, naturalThen-reads}
+use Rattle.files.specs.inner.Cases.{caseOf, caseAt, nextAt}
 use Rattle.files.specs.declared.container.Case.{Case}
 use Rattle.files.specs.declared.container.Case.the-variants.{At, Nothing}
 
@@ -23,47 +23,34 @@ name-end s at {c = c} p q r =
     let e : c ≡ at = omega arith in
     rw e at r
 
--- a length is at most 60,000, and its line ends within the container
-pub length-in : (s : List ℕ) (at : ℕ) {n start : ℕ} → found n start ≡ naturalThen 5 60000 10 s at → (n ≤ 60000) × (at ≤ start) × (start ≤ length s)
-unfolding naturalThen
-length-in s at {n} {start} = go (nextNatural 5 60000 s at) refl
-  where
-    goal : Type 0
-    goal = (n ≤ 60000) × (at ≤ start) × (start ≤ length s)
+-- a length is at most that of the longest text, and its line ends within the container
+pub length-in : (s : List ℕ) (at : ℕ) {n start : ℕ} → found n start ≡ naturalThen 5 longestText feed s at → (n ≤ longestText) × (at ≤ start) × (start ≤ length s)
+length-in s at {n} {start} e =
+    let h = reads-ends (lit< tt) (naturalThen-reads 5 longestText feed by-bounds (lit< tt) s at) n start e in
+    (h .0, omega arith, h .2)
 
-    ended : (v m : ℕ) → found v m ≡ nextNatural 5 60000 s at → (b : Reading Unit) → b ≡ byte 10 s m → found n start ≡ bind b (λ u l. found v l) → goal
-    ended v m h (found u l) k e =
-        let i : n ≡ v = (cc) in
-        let j : start ≡ l = (cc) in
-        omega (arith, nextNatural-within 5 60000 s at v m h, nextNatural-far 5 60000 s at .ends v m h, byte-ahead s m 10 (lit< tt) .ends u l k)
-    ended v m h (fault i p) k e = let z : _≡_ {A = ℕ} 0 1 = (cc) in absurd (omega arith)
-
-    go : (a : Reading ℕ) → a ≡ nextNatural 5 60000 s at → found n start ≡ bind a (λ v m. bind (byte 10 s m) (λ u l. found v l)) → goal
-    go (found v m) h e = ended v m h (byte 10 s m) refl e
-    go (fault k p) h e = let z : _≡_ {A = ℕ} 0 1 = (cc) in absurd (omega arith)
-
--- its name, then its bytes, at most 60,000, and a byte after them
+-- its name, then its bytes, no more than the longest text, and a byte after them
 pub case-in : (s : List ℕ) (at : ℕ) {name start end : ℕ} → At name start end ≡ caseAt s at
-    → (at ≤ name) × (name ≤ start) × (start ≤ end) × (end < length s) × (end ≤ start + 60000)
+    → (at ≤ name) × (name ≤ start) × (start ≤ end) × (end < length s) × (end ≤ start + longestText)
 unfolding caseAt
-case-in s at {name} {start} {end} = go (naturalThen 5 60000 10 s from) refl
+case-in s at {name} {start} {end} = go (naturalThen 5 longestText feed s from) refl
   where
     from : ℕ
     from = at + length (field s at)
 
     goal : Type 0
-    goal = (at ≤ name) × (name ≤ start) × (start ≤ end) × (end < length s) × (end ≤ start + 60000)
+    goal = (at ≤ name) × (name ≤ start) × (start ≤ end) × (end < length s) × (end ≤ start + longestText)
 
-    ended : (n l : ℕ) → found n l ≡ naturalThen 5 60000 10 s from → (t : Bool) → eqb (byteAt s (l + n)) 10 ≡ t → At name start end ≡ pick t (At from l (l + n)) Nothing → goal
+    ended : (n l : ℕ) → found n l ≡ naturalThen 5 longestText feed s from → (t : Bool) → eqb (byteAt s (l + n)) feed ≡ t → At name start end ≡ pick t (At from l (l + n)) Nothing → goal
     ended n l h true q e =
         let i : name ≡ from = (cc) in
         let j : start ≡ l = (cc) in
         let k : end ≡ l + n = (cc) in
-        omega (arith, length-in s from h, there 10 s (l + n) (lit< tt) (eqb-true (byteAt s (l + n)) 10 q))
+        omega (arith, length-in s from h, there feed s (l + n) (lit< tt) (eqb-true (byteAt s (l + n)) feed q))
     ended n l h false q e = let z : _≡_ {A = ℕ} 0 1 = (cc) in absurd (omega arith)
 
-    go : (a : Reading ℕ) → a ≡ naturalThen 5 60000 10 s from → At name start end ≡ caseOf s from a → goal
-    go (found n l) h e = ended n l h (eqb (byteAt s (l + n)) 10) refl e
+    go : (a : Reading ℕ) → a ≡ naturalThen 5 longestText feed s from → At name start end ≡ caseOf s from a → goal
+    go (found n l) h e = ended n l h (eqb (byteAt s (l + n)) feed) refl e
     go (fault k p) h e = let z : _≡_ {A = ℕ} 0 1 = (cc) in absurd (omega arith)
 
 -- ---- the next case

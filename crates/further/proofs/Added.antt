@@ -8,28 +8,28 @@ use borrow.Author.Tests.{ne-eqb}
 use lib.Dec.{eqb}
 use Rattle.basics.specs.Lists.{among}
 use Rattle.basics.proofs.Bools.{or-else}
-use Rattle.aspif.specs.Statements.{Statement, Line}
-use Rattle.terms.specs.Says.{partOf, heads, headed}
+use Rattle.aspif.specs.Statements.{Statement, Line, statementAtoms, ruleIn, theoryIn}
+use Rattle.terms.specs.Says.{headIn, headed}
 use Rattle.terms.specs.Terms.{statesIn, taken, external}
-use Rattle.stable.specs.Meaning.{Atoms, Says, broken}
+use Rattle.stable.specs.Meaning.{Atoms, broken}
 use Rattle.judge.specs.Plan.{Ready, holds}
-use Rattle.further.specs.Later.{atoms, Unused, Added, a-number, a-string, a-compound, an-element, an-atom, a-fact, Grown, done, keep, add, Later}
+use Rattle.further.specs.Later.{Unused, Added, a-term, an-element, an-atom, a-fact, Grown, done, keep, add, Later}
 use Rattle.judge.proofs.Ascent.{of-member}
-use Rattle.further.proofs.Lists.{not-true, not-both}
+use Rattle.further.proofs.Lists.{not-true, not-both, Has}
 use Rattle.further.proofs.Agree.{Agree}
 
 -- ---- lines with others between
 
 module _ (P : Statement → Type 0) where
   -- what an old line says, a new line says
-  pub says-on : {ls ms : List Line} → Grown P ls ms → (s : Statement) → Says ls s → Says ms s
+  pub says-on : {ls ms : List Line} → Grown P ls ms → (s : Statement) → Has ls s → Has ms s
   says-on done s h = h
   says-on (keep l m e g) s (inl h) = inl (sym e ∙ h)
   says-on (keep l m e g) s (inr h) = inr (says-on g s h)
   says-on (add m i g) s h = inr (says-on g s h)
 
   -- what a new line says, an old one says or an added one
-  pub says-back : {ls ms : List Line} → Grown P ls ms → (s : Statement) → Says ms s → Says ls s ⊎ P s
+  pub says-back : {ls ms : List Line} → Grown P ls ms → (s : Statement) → Has ms s → Has ls s ⊎ P s
   says-back done s h = inl h
   says-back (keep l m e g) s (inl h) = inl (inl (e ∙ h))
   says-back (keep l m e g) s (inr h) = ⊎-elim (λ x. inl (inr x)) (λ x. inr x) (says-back g s h)
@@ -37,14 +37,14 @@ module _ (P : Statement → Type 0) where
   says-back (add m i g) s (inr h) = says-back g s h
 
   -- an atom that no added line states is stated by the new lines exactly if by the old
-  pub taken-same : (a : ℕ) → ((s : Statement) → P s → statesIn a (partOf s) ≡ false) → {ls ms : List Line} → Grown P ls ms → taken ms a ≡ taken ls a
+  pub taken-same : (a : ℕ) → ((s : Statement) → P s → statesIn a (theoryIn s) ≡ false) → {ls ms : List Line} → Grown P ls ms → taken ms a ≡ taken ls a
   unfolding taken
   taken-same a f done = refl
   taken-same a f (keep l m e g) = rw (e, taken-same a f g)
   taken-same a f (add m i g) = rw (f (m .says) i) (taken-same a f g)
 
   -- an atom that heads no added line heads a new line exactly if an old one
-  pub headed-same : (a : ℕ) → ((s : Statement) → P s → heads a s ≡ false) → {ls ms : List Line} → Grown P ls ms → headed ms a ≡ headed ls a
+  pub headed-same : (a : ℕ) → ((s : Statement) → P s → headIn a (ruleIn s) ≡ false) → {ls ms : List Line} → Grown P ls ms → headed ms a ≡ headed ls a
   unfolding headed
   headed-same a f done = refl
   headed-same a f (keep l m e g) = rw (e, headed-same a f g)
@@ -53,7 +53,7 @@ module _ (P : Statement → Type 0) where
 -- ---- an unused number
 
 -- an unused number is in no line
-pub unused-in : (kind : Statement → List ℕ) (ls : List Line) (n : ℕ) → Unused kind ls n → (s : Statement) → Says ls s → among n (kind s) ≡ false
+pub unused-in : (kind : Statement → List ℕ) (ls : List Line) (n : ℕ) → Unused kind ls n → (s : Statement) → Has ls s → among n (kind s) ≡ false
 unused-in kind [] n h s x = absurd x
 unused-in kind (l ∷ ls) n h s (inl x) = rw x at (h .0)
 unused-in kind (l ∷ ls) n h s (inr x) = unused-in kind ls n (h .1) s x
@@ -66,29 +66,23 @@ module _ (ls : List Line) (new : List ℕ) where
   other a c f e = ne-eqb a c (λ i. not-both e (rw i at f))
 
   -- a set that has the new atoms breaks no added line: a fact whose head is in X is never broken
-  pub added-unbroken : (Y : Atoms) → ((a : ℕ) → among a new ≡ true → Y a ≡ true) → (s : Statement) → Added ls new s → broken Y s ≡ false
-  added-unbroken Y f s (a-number u w h) = refl
-  added-unbroken Y f s (a-string u bs h) = refl
-  added-unbroken Y f s (a-compound u t us h) = refl
-  added-unbroken Y f s (an-element v us c h) = refl
+  pub added-unbroken : (Y : Atoms) → ((a : ℕ) → among a new ≡ true → Y a ≡ true) → (s : Statement) → Added ls new s → broken Y (ruleIn s) ≡ false
+  added-unbroken Y f s (a-term u x h) = refl
+  added-unbroken Y f s (an-element v x h) = refl
   added-unbroken Y f s (an-atom a p vs g u h) = refl
   added-unbroken Y f s (a-fact a h) = rw (f a h)
 
   -- an old atom heads no added line
-  pub added-heads : (a : ℕ) → among a new ≡ false → (s : Statement) → Added ls new s → heads a s ≡ false
-  added-heads a f s (a-number u w h) = refl
-  added-heads a f s (a-string u bs h) = refl
-  added-heads a f s (a-compound u t us h) = refl
-  added-heads a f s (an-element v us c h) = refl
+  pub added-heads : (a : ℕ) → among a new ≡ false → (s : Statement) → Added ls new s → headIn a (ruleIn s) ≡ false
+  added-heads a f s (a-term u x h) = refl
+  added-heads a f s (an-element v x h) = refl
   added-heads a f s (an-atom c p vs g u h) = refl
-  added-heads a f s (a-fact c h) = other a c f h
+  added-heads a f s (a-fact c h) = or-else (eqb a c) false refl ∙ other a c f h
 
   -- no added line states an old atom
-  pub added-states : (a : ℕ) → among a new ≡ false → (s : Statement) → Added ls new s → statesIn a (partOf s) ≡ false
-  added-states a f s (a-number u w h) = refl
-  added-states a f s (a-string u bs h) = refl
-  added-states a f s (a-compound u t us h) = refl
-  added-states a f s (an-element v us c h) = refl
+  pub added-states : (a : ℕ) → among a new ≡ false → (s : Statement) → Added ls new s → statesIn a (theoryIn s) ≡ false
+  added-states a f s (a-term u x h) = refl
+  added-states a f s (an-element v x h) = refl
   added-states a f s (an-atom c p vs g u h) = other a c f h
   added-states a f s (a-fact c h) = refl
 
@@ -100,16 +94,16 @@ module _ (q q′ : Ready) (new : List ℕ) (l : Later q q′ new) where
   old-apart a e = not-true (among a new) (λ i. not-both e (of-member (λ n. holds q n ≡ false) new a (l .outside) i))
 
   -- an atom of an old line is none of the new
-  pub line-apart : (s : Statement) → Says (q .lines) s → (a : ℕ) → among a (atoms s) ≡ true → among a new ≡ false
+  pub line-apart : (s : Statement) → Has (q .lines) s → (a : ℕ) → among a (statementAtoms s) ≡ true → among a new ≡ false
   line-apart s x a e =
-      not-true (among a new) (λ i. not-both e (unused-in atoms (q .lines) a (of-member (Unused atoms (q .lines)) new a (l .unused) i) s x))
+      not-true (among a new) (λ i. not-both e (unused-in statementAtoms (q .lines) a (of-member (Unused statementAtoms (q .lines)) new a (l .unused) i) s x))
 
   -- both candidates have the same of the atoms that are not new
   pub candidate-same : (a : ℕ) → among a new ≡ false → holds q a ≡ holds q′ a
   candidate-same a f = sym (l .candidate a ∙ or-else (holds q a) (among a new) f)
 
   -- and of the atoms of each old line
-  pub lines-agree : (s : Statement) → Says (q .lines) s → Agree (holds q) (holds q′) (atoms s)
+  pub lines-agree : (s : Statement) → Has (q .lines) s → Agree (holds q) (holds q′) (statementAtoms s)
   lines-agree s x a e = candidate-same a (line-apart s x a e)
 
   -- the new candidate has the old atoms

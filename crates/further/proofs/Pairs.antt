@@ -8,10 +8,10 @@ use lib.IntN.{pos}
 use Rattle.basics.specs.Lists.{among}
 use Rattle.basics.proofs.Bools.{and-cases}
 use Rattle.basics.proofs.Bitmaps.{among-append}
-use Rattle.aspif.specs.Statements.{Statement, Line}
+use Rattle.aspif.specs.Statements.{num, comp, elem, Statement, Line, statementAtoms}
 use Rattle.terms.specs.Terms.{taken}
 use Rattle.judge.specs.Plan.{Ready, ready}
-use Rattle.further.specs.Later.{atoms, terms, elements, Unused, Added, a-number, a-compound, an-element, an-atom, a-fact, Grown, done, keep, add, Later}
+use Rattle.further.specs.Later.{terms, elements, Unused, Added, a-term, an-element, an-atom, a-fact, Grown, done, keep, add, Later}
 use Rattle.judge.proofs.Texts.{linesP}
 use Rattle.further.proofs.Texts.{linesWith}
 
@@ -50,9 +50,9 @@ module _ (eight c c′ w n : ℕ) where
       (add _ (a-fact 4 refl)
       (keep _ _ refl (keep _ _ refl (keep _ _ refl (keep _ _ refl (keep _ _ refl (keep _ _ refl (keep _ _ refl (keep _ _ refl
       (keep _ _ refl (keep _ _ refl (keep _ _ refl (keep _ _ refl (keep _ _ refl (keep _ _ refl (keep _ _ refl (keep _ _ refl
-      (add _ (a-number 10 (pos w) (unused-so terms (linesP 40 eight 117 c) 10 refl))
-      (add _ (a-compound 11 (pos 1) (10 ∷ []) (unused-so terms (linesP 40 eight 117 c) 11 refl))
-      (add _ (an-element 2 (7 ∷ []) [] (unused-so elements (linesP 40 eight 117 c) 2 refl))
+      (add _ (a-term 10 (num (pos w)) (unused-so terms (linesP 40 eight 117 c) 10 refl))
+      (add _ (a-term 11 (comp (pos 1) (10 ∷ [])) (unused-so terms (linesP 40 eight 117 c) 11 refl))
+      (add _ (an-element 2 (elem (7 ∷ []) []) (unused-so elements (linesP 40 eight 117 c) 2 refl))
       (add _ (an-atom 4 0 (2 ∷ []) 2 11 refl)
       done)))))))))))))))))))))
 
@@ -63,7 +63,7 @@ module _ (eight c c′ w n : ℕ) where
     lines = with-lines;
     stated = (refl, tt);
     facts = (inr (inl refl), tt);
-    unused = (unused-so atoms (linesP 40 eight 117 c) 4 refl, tt);
+    unused = (unused-so statementAtoms (linesP 40 eight 117 c) 4 refl, tt);
     outside = (h, tt);
     candidate = λ a. among-append a cs (4 ∷ []);
   }

@@ -7,13 +7,13 @@ use lib.Dec.{lit≤}
 use lib.IntN.{pos}
 use Rattle.faults.specs.Answer.{got}
 use Rattle.fields.specs.Fields.{byteAt, byte, bytes, lineEnd, textEnd, upTo, field, allDigits, isNatural, value, natural, nextNatural, negative, integer, nextInteger, literal, atom, nextAtom, nextTerm, nextElement, char, item, items, counted, naturalThen, string}
-use Rattle.aspif.specs.Statements.{positive, single, choice, Statement, rule, numeric, compound, element, guarded, Line}
-use Rattle.aspif.specs.Grammar.{lineOf, heads, bodyKind, literals, body, ruleLine, numericLine, stringLine, compoundLine, elementLine, front, guardedLine, theoryType, theoryOf, theoryPart, statementOf, lastLine, lines, noTag, firstLine, plan, statements}
-use Rattle.aspif.specs.Candidate.{atomAbove, ending, ascending, atoms, candidate}
+use Rattle.aspif.specs.Statements.{positive, single, choice, normal, num, comp, elem, guard, defines, collects, states, Statement, rule, theory, Line}
+use Rattle.aspif.specs.Grammar.{lineOf, heads, bodyKind, literals, body, ruleLine, numericLine, stringLine, compoundLine, elementLine, front, guardedLine, theoryOf, theoryPart, statementOf, lastLine, lines, noTag, firstLine, plan, statements}
+use Rattle.aspif.specs.Candidate.{atomAbove, ending, ascending, candidateLine, candidate}
 use Rattle.terms.specs.Says.{term, elementAt}
 use Rattle.terms.specs.Terms.{Stated, taken, allDefined, sameBytes, isString, isMinus, opposite, boundOf, pairOf, pairIn, differenceOf, faulty, differencesFrom, differences}
 use Rattle.judge.specs.Texts.{bytesOf}
-use Rattle.judge.proofs.Texts.{Says, timeRules, three, stated}
+use Rattle.judge.proofs.Texts.{SaysLines, timeRules, three, stated}
 
 -- ---- the texts
 
@@ -51,15 +51,15 @@ line p x = record { place = p; says = x }
 -- with the numbers 8 and 10; the line behind each stands at c and n
 abbrev pub linesWith : (eight c w n : ℕ) → List Line
 linesWith eight c w n =
-    line 10 (rule (choice (1 ∷ [])) [])
-    ∷ line 22 (rule (single 4) [])
-    ∷ line 34 (rule (single 2) (positive 1 ∷ []))
-    ∷ line 48 (rule (single 3) [])
+    line 10 (rule (choice (1 ∷ [])) (normal []))
+    ∷ line 22 (rule (single 4) (normal []))
+    ∷ line 34 (rule (single 2) (normal (positive 1 ∷ [])))
+    ∷ line 48 (rule (single 3) (normal []))
     ∷ (timeRules 40 eight 60 129 c
-    ++ (line (c + 54) (numeric 10 (pos w))
-    ∷ line n (compound 11 (pos 1) (10 ∷ []))
-    ∷ line (n + 14) (element 2 (7 ∷ []) [])
-    ∷ line (n + 26) (guarded 4 0 (2 ∷ []) 2 11)
+    ++ (line (c + 54) (theory (defines 10 (num (pos w))))
+    ∷ line n (theory (defines 11 (comp (pos 1) (10 ∷ []))))
+    ∷ line (n + 14) (theory (collects 2 (elem (7 ∷ []) [])))
+    ∷ line (n + 26) (theory (states 4 0 (2 ∷ []) (guard 2 11)))
     ∷ []))
 
 -- atoms 2 and 3 say what they said, and atom 4 says send - recv ≤ -w
@@ -72,14 +72,14 @@ differences-with eight c w n = refl
 
 -- what each of the texts says
 pub record Texts : Type 0 where
-  pub p3 : Says textP3 (linesWith 5 179 3 242) (statedWith 5 3)
-  pub p7 : Says textP7 (linesWith 5 179 7 242) (statedWith 5 7)
-  pub p45 : Says textP45 (linesWith 5 179 45 243) (statedWith 5 45)
-  pub q3 : Says textQ3 (linesWith 45 180 3 243) (statedWith 45 3)
+  pub p3 : SaysLines textP3 (linesWith 5 179 3 242) (statedWith 5 3)
+  pub p7 : SaysLines textP7 (linesWith 5 179 7 242) (statedWith 5 7)
+  pub p45 : SaysLines textP45 (linesWith 5 179 45 243) (statedWith 5 45)
+  pub q3 : SaysLines textQ3 (linesWith 45 180 3 243) (statedWith 45 3)
 
 -- each is computed from its bytes
 pub texts : Texts
-unfolding textP3 textP7 textP45 textQ3 byteAt byte bytes lineEnd textEnd upTo field allDigits isNatural value natural nextNatural negative integer nextInteger literal atom nextAtom nextTerm nextElement char item items counted naturalThen string lineOf heads bodyKind literals body ruleLine numericLine stringLine compoundLine elementLine front guardedLine theoryType theoryOf theoryPart statementOf lastLine lines noTag firstLine plan statements
+unfolding textP3 textP7 textP45 textQ3 byteAt byte bytes lineEnd textEnd upTo field allDigits isNatural value natural nextNatural negative integer nextInteger literal atom nextAtom nextTerm nextElement char item items counted naturalThen string lineOf heads bodyKind literals body ruleLine numericLine stringLine compoundLine elementLine front guardedLine theoryOf theoryPart statementOf lastLine lines noTag firstLine plan statements
 texts = record {
   p3 = record { short = lit≤ tt; lines = refl; stated = differences-with 5 179 3 242 };
   p7 = record { short = lit≤ tt; lines = refl; stated = differences-with 5 179 7 242 };
@@ -95,5 +95,5 @@ pub record Candidates : Type 0 where
 
 -- each is computed
 pub candidates : Candidates
-unfolding candidate atoms ascending ending lastLine lineEnd textEnd atomAbove natural field upTo isNatural allDigits value byteAt byte
+unfolding candidate candidateLine ascending ending lastLine lineEnd textEnd atomAbove natural field upTo isNatural allDigits value byteAt byte
 candidates = record { one-two-three-four = refl; one-three-four = refl; two-three-four = refl }

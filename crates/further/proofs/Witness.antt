@@ -11,6 +11,7 @@ use lib.Dec.{eqb, lit≤}
 use lib.IntN.{pos}
 use lib.ListN.{length}
 use lib.Signed.{ltZ-yes}
+use Rattle.faults.specs.Limits.{cycleRoom, tableRoom}
 use Rattle.basics.specs.Bools.{pick}
 use Rattle.basics.specs.Lists.{Some}
 use Rattle.faults.specs.Answer.{got}
@@ -19,7 +20,7 @@ use Rattle.aspif.specs.Candidate.{candidate}
 use Rattle.diffs.specs.Diff.{Diff, Keeps, whole, Earliest}
 use Rattle.diffs.proofs.EarliestTimes.{earliest-unique}
 use Rattle.diffs.proofs.Integers.{neg-up, keeps-holds, holds-keeps}
-use Rattle.terms.specs.Says.{Says as SaysDifference, Name}
+use Rattle.terms.specs.Says.{Says, Name}
 use Rattle.terms.specs.Terms.{Stated, differences}
 use Rattle.terms.proofs.Stating.{says-listed, listed-says}
 use Rattle.stable.specs.Meaning.{firstBroken}
@@ -35,7 +36,7 @@ use Rattle.judge.proofs.Readable.{readable-got}
 use Rattle.judge.proofs.Demand2.{demand-2}
 use Rattle.judge.proofs.SendRecv.{times, two-names}
 use Rattle.judge.proofs.Starred.{starred}
-use Rattle.judge.proofs.Texts.{Says, linesP, two, three, stated, candidates as old-candidates, texts as old-texts}
+use Rattle.judge.proofs.Texts.{SaysLines, linesP, two, three, stated, candidates as old-candidates, texts as old-texts}
 use Rattle.judge.proofs.Ascent.{of-member}
 use Rattle.further.proofs.Saying.{still-name}
 use Rattle.further.proofs.Theorem.{demand-3}
@@ -44,11 +45,11 @@ use Rattle.further.proofs.Pairs.{old, new, later}
 
 -- both rooms are long enough
 pub record Long (b : Rooms) : Type 0 where
-  pub room : 24592 ≤ length (b .room)
-  pub cycle : 1024 ≤ length (b .cycle)
+  pub room : tableRoom ≤ length (b .room)
+  pub cycle : cycleRoom ≤ length (b .cycle)
 
 -- a text and a candidate that were computed are readable
-reads : (a : Asked) {ls : List Line} {ds : List Stated} {cs : List ℕ} → Says (a .text) ls ds → candidate (a .cand) ≡ got cs
+reads : (a : Asked) {ls : List Line} {ds : List Stated} {cs : List ℕ} → SaysLines (a .text) ls ds → candidate (a .cand) ≡ got cs
     → (b : Rooms) → Long b → readable a b ≡ got (ready ls cs)
 reads a s c b h = readable-got a b (h .room) (h .cycle) (s .short) (s .lines) (s .stated) c
 
@@ -66,7 +67,7 @@ send-recv = let n = two-names (old 5 167 all) 40 5 (old-texts .p .stated) .only 
 
 module _ (w n : ℕ) (said : differences (linesWith 5 179 w n) ≡ got (statedWith 5 w)) where
   -- P with the further rule says these three
-  which : (a : ℕ) (d : Diff) → SaysDifference (linesWith 5 179 w n) a d → (d ≡ two 40) ⊎ ((d ≡ three 5) ⊎ (d ≡ three w))
+  which : (a : ℕ) (d : Diff) → Says (linesWith 5 179 w n) a d → (d ≡ two 40) ⊎ ((d ≡ three 5) ⊎ (d ≡ three w))
   which a d x = go (says-listed (linesWith 5 179 w n) (statedWith 5 w) said a d x)
     where
       go : Some (λ (s : Stated). s ≡ record { atom = a; says = d }) (statedWith 5 w) → (d ≡ two 40) ⊎ ((d ≡ three 5) ⊎ (d ≡ three w))
@@ -82,13 +83,13 @@ module _ (w n : ℕ) (said : differences (linesWith 5 179 w n) ≡ got (statedWi
   held-four = record { atom = 4; held = record { holds = refl; says = listed-says (linesWith 5 179 w n) (statedWith 5 w) said 4 (three w) (inr (inr (inl refl))) } }
 
   -- it speaks of old names only
-  old-names : (a : ℕ) (d : Diff) → SaysDifference (linesWith 5 179 w n) a d → Name (linesP 40 5 117 167) (d .x) × Name (linesP 40 5 117 167) (d .y)
+  old-names : (a : ℕ) (d : Diff) → Says (linesWith 5 179 w n) a d → Name (linesP 40 5 117 167) (d .x) × Name (linesP 40 5 117 167) (d .y)
   old-names a d x =
       let m : Name (linesP 40 5 117 167) 4 × Name (linesP 40 5 117 167) 3 = (send-recv .1, send-recv .0) in
       ⊎-elim (λ e. rw e m) (⊎-elim (λ e. rw e send-recv) (λ e. rw e send-recv)) (which a d x)
 
   -- recv at m, all else at 0, keeps all three
-  kept-with : (m : ℕ) → 5 ≤ m → w ≤ m → m ≤ 40 → (a : ℕ) (d : Diff) → SaysDifference (linesWith 5 179 w n) a d → Keeps (whole (times m)) d
+  kept-with : (m : ℕ) → 5 ≤ m → w ≤ m → m ≤ 40 → (a : ℕ) (d : Diff) → Says (linesWith 5 179 w n) a d → Keeps (whole (times m)) d
   kept-with m h i j a d x =
       ⊎-elim (λ e. rw e (holds-keeps (times m) (two 40) (omega arith)))
       (⊎-elim (λ e. rw e (holds-keeps (times m) (three 5) (omega arith))) (λ e. rw e (holds-keeps (times m) (three w) (omega (arith, neg-up (pos w))))))

@@ -1,69 +1,56 @@
--- A plan with further time rules: demand 3's relation between an old plan and a new one, on the lines of both texts. Assumes nothing.
+-- Believed: a plan with further time rules: demand 3's relation between an old plan and a new one, on the lines of both texts. Assumes nothing.
 use Prim.Native.Nat.{ℕ}
 use mathlib.Core.Path.{_≡_}
 use mathlib.Core.Bool.{true, false, _||_}
 use mathlib.Core.Logic.{_⊎_}
-use mathlib.Core.List.{List, [], _∷_, _++_, map}
+use mathlib.Core.Option.{Option, some, none}
+use mathlib.Core.List.{List, [], _∷_, _++_}
 use lib.IntN.{ℤ, pos, negsuc}
 use Rattle.basics.specs.Lists.{among, All}
-use Rattle.aspif.specs.Statements.{Literal, Head, empty, single, choice, Statement, rule, output, numeric, string, compound, element, theory, guarded, comment, Line}
-use Rattle.aspif.specs.Words.{atomOf}
+use Rattle.aspif.specs.Statements.{single, normal, Term, num, str, comp, Element, elem, Guard, unguarded, guard, Theory, defines, collects, states, Statement, rule, theory, Line, statementAtoms, Rule, theoryIn}
 use Rattle.terms.specs.Terms.{taken}
-use Rattle.stable.specs.Meaning.{Says}
+use Rattle.stable.specs.Meaning.{HasRule}
 use Rattle.judge.specs.Plan.{Ready}
 
 -- ---- the numbers of each kind that stand in a line
-
--- the atoms of a head
-abbrev pub inHead : Head → List ℕ
-inHead empty = []
-inHead (single a) = a ∷ []
-inHead (choice hs) = hs
-
--- the atoms of literals
-abbrev pub inLiterals : List Literal → List ℕ
-inLiterals ls = map atomOf ls
-
--- atoms: of a head, of a body, of a condition, and of a theory atom
-abbrev pub atoms : Statement → List ℕ
-atoms (rule h b) = inHead h ++ inLiterals b
-atoms (output bs c) = inLiterals c
-atoms (numeric u w) = []
-atoms (string u bs) = []
-atoms (compound u t us) = []
-atoms (element v us c) = inLiterals c
-atoms (theory a p vs) = a ∷ []
-atoms (guarded a p vs g u) = a ∷ []
-atoms (comment bs) = []
 
 -- a compound's t, where it is a term number
 abbrev pub functor : ℤ → List ℕ
 functor (pos t) = t ∷ []
 functor (negsuc n) = []
 
--- terms: the one defined, a compound's t and arguments, those of an element, and name, operator and bound of a theory atom
-abbrev pub terms : Statement → List ℕ
-terms (rule h b) = []
-terms (output bs c) = []
-terms (numeric u w) = u ∷ []
-terms (string u bs) = u ∷ []
-terms (compound u t us) = u ∷ (functor t ++ us)
-terms (element v us c) = us
-terms (theory a p vs) = p ∷ []
-terms (guarded a p vs g u) = p ∷ g ∷ u ∷ []
-terms (comment bs) = []
+-- what a term uses: a compound's t and arguments
+abbrev pub inTerm : Term → List ℕ
+inTerm (num w) = []
+inTerm (str bs) = []
+inTerm (comp t us) = functor t ++ us
+
+abbrev pub inGuard : Guard → List ℕ
+inGuard unguarded = []
+inGuard (guard g u) = g ∷ u ∷ []
+
+-- terms: the one defined and what it uses, those of an element, and name, operator and bound of a theory atom
+abbrev pub theoryTerms : Theory → List ℕ
+theoryTerms (defines u t) = u ∷ inTerm t
+theoryTerms (collects v (elem us c)) = us
+theoryTerms (states a p vs g) = p ∷ inGuard g
 
 -- elements: the one defined, and those of a theory atom
+abbrev pub theoryElements : Theory → List ℕ
+theoryElements (defines u t) = []
+theoryElements (collects v e) = v ∷ []
+theoryElements (states a p vs g) = vs
+
+-- those of a theory statement; in any other there is none
+abbrev pub inTheory : (Theory → List ℕ) → Option Theory → List ℕ
+inTheory f (some x) = f x
+inTheory f none = []
+
+abbrev pub terms : Statement → List ℕ
+terms s = inTheory theoryTerms (theoryIn s)
+
 abbrev pub elements : Statement → List ℕ
-elements (rule h b) = []
-elements (output bs c) = []
-elements (numeric u w) = []
-elements (string u bs) = []
-elements (compound u t us) = []
-elements (element v us c) = v ∷ []
-elements (theory a p vs) = vs
-elements (guarded a p vs g u) = vs
-elements (comment bs) = []
+elements s = inTheory theoryElements (theoryIn s)
 
 -- no line has n among its numbers of a kind
 abbrev pub Unused : (kind : Statement → List ℕ) → List Line → ℕ → Type 0
@@ -73,12 +60,10 @@ Unused kind ls n = All (λ (l : Line). among n (kind (l .says)) ≡ false) ls
 
 -- what may be added to the lines ls: terms and elements under unused numbers; of each atom of `new` its theory atom and its fact; nothing else
 pub data Added (ls : List Line) (new : List ℕ) : Statement → Type 0 where
-  a-number : (u : ℕ) (w : ℤ) → Unused terms ls u → Added ls new (numeric u w)
-  a-string : (u : ℕ) (bs : List ℕ) → Unused terms ls u → Added ls new (string u bs)
-  a-compound : (u : ℕ) (t : ℤ) (us : List ℕ) → Unused terms ls u → Added ls new (compound u t us)
-  an-element : (v : ℕ) (us : List ℕ) (c : List Literal) → Unused elements ls v → Added ls new (element v us c)
-  an-atom : (a p : ℕ) (vs : List ℕ) (g u : ℕ) → among a new ≡ true → Added ls new (guarded a p vs g u)
-  a-fact : (a : ℕ) → among a new ≡ true → Added ls new (rule (single a) [])
+  a-term : (u : ℕ) (t : Term) → Unused terms ls u → Added ls new (theory (defines u t))
+  an-element : (v : ℕ) (e : Element) → Unused elements ls v → Added ls new (theory (collects v e))
+  an-atom : (a p : ℕ) (vs : List ℕ) (g u : ℕ) → among a new ≡ true → Added ls new (theory (states a p vs (guard g u)))
+  a-fact : (a : ℕ) → among a new ≡ true → Added ls new (rule (single a) (normal []))
 
 -- the second list is the first, line by line in order, each at any place, with lines of P anywhere between
 pub data Grown (P : Statement → Type 0) : List Line → List Line → Type 0 where
@@ -94,6 +79,10 @@ Moved (add m h g) p p′ = Moved g p p′
 
 -- ---- the plan and the candidate
 
+-- a rule with an empty body
+abbrev pub fact : ℕ → Rule
+fact a = record { head = single a; body = normal [] }
+
 -- q′ is q with time rules added, whose atoms are `new`
 pub record Later (q q′ : Ready) (new : List ℕ) : Type 0 where
   -- the old lines in order; terms, elements, theory atoms and facts between
@@ -101,9 +90,9 @@ pub record Later (q q′ : Ready) (new : List ℕ) : Type 0 where
   -- each new atom is a theory atom; the new plan is readable, so it is a difference
   pub stated : All (λ a. taken (q′ .lines) a ≡ true) new
   -- each is also a fact
-  pub facts : All (λ a. Says (q′ .lines) (rule (single a) [])) new
+  pub facts : All (λ a. HasRule (q′ .lines) (fact a)) new
   -- none stands in the old text
-  pub unused : All (Unused atoms (q .lines)) new
+  pub unused : All (Unused statementAtoms (q .lines)) new
   -- nor in the old candidate
   pub outside : All (λ a. among a (q .atoms) ≡ false) new
   -- the new candidate is the old one and these

@@ -4,7 +4,7 @@ use mathlib.Core.Path.{_≡_, refl}
 use mathlib.Core.Bool.{false}
 use mathlib.Core.List.{List, [], _∷_}
 use Rattle.basics.specs.inner.Bitmaps.{isMarked, marks, markedFrom}
-use Rattle.aspif.specs.Candidate.{atomsOf}
+use Rattle.aspif.specs.inner.Bitmap.{atomsOf}
 
 -- no atom is 0
 pub marked-atoms : (x : List ℕ) → isMarked x 0 ≡ false → markedFrom 1 x ≡ atomsOf x

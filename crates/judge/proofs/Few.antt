@@ -6,12 +6,14 @@ use mathlib.Core.List.{List, [], _∷_, map}
 use native.Mathlib.Omega.{arith}
 use lib.Dec.{lit<}
 use lib.ListN.{length, length-map}
+use Rattle.faults.specs.Limits.{lastAtom}
+use Rattle.faults.specs.inner.Places.{atomPlaces}
 use Rattle.basics.specs.Bools.{pick}
 use Rattle.basics.specs.inner.Bitmaps.{isMarked}
 use Rattle.basics.specs.Lists.{All, NotIn, Distinct}
 use Rattle.diffs.proofs.Names.{pigeon}
 use Rattle.terms.specs.Terms.{Stated}
-use Rattle.judge.specs.Stages.{inForce, SmallStated}
+use Rattle.judge.specs.inner.Stages.{inForce, SmallStated}
 use Rattle.judge.proofs.Firsts.{all-force}
 
 -- the atoms of differences
@@ -50,12 +52,12 @@ module _ (x : List ℕ) where
       go false e q = q
 
   -- the atoms are to 4,096
-  atoms-below : (ds : List Stated) → All SmallStated ds → All (λ a. a < 4097) (atomsIn ds)
+  atoms-below : (ds : List Stated) → All SmallStated ds → All (λ a. a < atomPlaces) (atomsIn ds)
   atoms-below [] h = tt
   atoms-below (s ∷ ds) h = (h .0 .1, atoms-below ds (h .1))
 
   -- no more are in force than there are atoms
-  pub few-force : isMarked x 0 ≡ false → (ds : List Stated) → Distinct (atomsIn ds) → All SmallStated ds → length (inForce x ds) ≤ 4096
+  pub few-force : isMarked x 0 ≡ false → (ds : List Stated) → Distinct (atomsIn ds) → All SmallStated ds → length (inForce x ds) ≤ lastAtom
   few-force z ds d w =
-      let p = pigeon 4097 (0 ∷ atomsIn (inForce x ds)) (zero-out z ds, still-differ ds d) (lit< tt, atoms-below (inForce x ds) (all-force x SmallStated ds w)) in
+      let p = pigeon atomPlaces (0 ∷ atomsIn (inForce x ds)) (zero-out z ds, still-differ ds d) (lit< tt, atoms-below (inForce x ds) (all-force x SmallStated ds w)) in
       omega (arith, length-map (inForce x ds) (λ (s : Stated). s .atom))

@@ -14,26 +14,26 @@ use Rattle.diffs.specs.Diff.{Diff}
 use Rattle.diffs.proofs.Choosing.{by-dec}
 use Rattle.diffs.proofs.Names.{all-left, all-right}
 use Rattle.terms.specs.Terms.{Stated, Lists}
-use Rattle.terms.specs.Tables.{firsts}
-use Rattle.judge.specs.Stages.{inForce}
+use Rattle.terms.specs.inner.Tables.{tabulated}
+use Rattle.judge.specs.inner.Stages.{inForce}
 
 -- ---- each place
 
 -- there are n first places
-pub length-firsts : {A : Type 0} (n : ℕ) (f : ℕ → A) → length (firsts n f) ≡ n
-unfolding firsts
-length-firsts zero f = refl
-length-firsts (suc n) f = length-append (firsts n f) (f n ∷ []) ∙ omega (arith, length-firsts n f)
+pub length-tabulated : {A : Type 0} (n : ℕ) (f : ℕ → A) → length (tabulated n f) ≡ n
+unfolding tabulated
+length-tabulated zero f = refl
+length-tabulated (suc n) f = length-append (tabulated n f) (f n ∷ []) ∙ omega (arith, length-tabulated n f)
 
 module _ {A : Type 0} (P : A → Type 0) where
   -- what holds of each member holds at each of the first n places
-  pub firsts-all : (n : ℕ) (f : ℕ → A) → All P (firsts n f) → (i : ℕ) → i < n → P (f i)
-  unfolding firsts
-  firsts-all zero f h i l = absurd (omega arith)
-  firsts-all (suc n) f h i l =
+  pub tabulated-all : (n : ℕ) (f : ℕ → A) → All P (tabulated n f) → (i : ℕ) → i < n → P (f i)
+  unfolding tabulated
+  tabulated-all zero f h i l = absurd (omega arith)
+  tabulated-all (suc n) f h i l =
       by-dec (decLt i n)
-      (λ g. firsts-all n f (all-left P (firsts n f) (f n ∷ []) h) i g)
-      (λ g. subst (λ (j : ℕ). P (f j)) (omega arith) (all-right P (firsts n f) (f n ∷ []) h .0))
+      (λ g. tabulated-all n f (all-left P (tabulated n f) (f n ∷ []) h) i g)
+      (λ g. subst (λ (j : ℕ). P (f j)) (omega arith) (all-right P (tabulated n f) (f n ∷ []) h .0))
 
   -- ---- some place
 
@@ -59,22 +59,22 @@ module _ {A : Type 0} (P : A → Type 0) where
     pub holds : P (f place)
 
   -- a member stands at a place
-  pub some-place : (n : ℕ) (f : ℕ → A) → Some P (firsts n f) → Place n f
-  unfolding firsts
+  pub some-place : (n : ℕ) (f : ℕ → A) → Some P (tabulated n f) → Place n f
+  unfolding tabulated
   some-place zero f h = absurd h
   some-place (suc n) f h =
       ⊎-elim (λ p. let q = some-place n f p in record { place = q .place; within = omega (arith, q .within); holds = q .holds })
       (λ p. ⊎-elim (λ q. record { place = n; within = omega arith; holds = q }) (λ q. absurd q) p)
-      (some-split (firsts n f) (f n ∷ []) h)
+      (some-split (tabulated n f) (f n ∷ []) h)
 
   -- what stands at a place is a member
-  pub place-some : (n : ℕ) (f : ℕ → A) (i : ℕ) → i < n → P (f i) → Some P (firsts n f)
-  unfolding firsts
+  pub place-some : (n : ℕ) (f : ℕ → A) (i : ℕ) → i < n → P (f i) → Some P (tabulated n f)
+  unfolding tabulated
   place-some zero f i l h = absurd (omega arith)
   place-some (suc n) f i l h =
       by-dec (decLt i n)
-      (λ g. some-left (firsts n f) (f n ∷ []) (place-some n f i g h))
-      (λ g. some-right (firsts n f) (f n ∷ []) (inl (subst (λ (j : ℕ). P (f j)) (omega arith) h)))
+      (λ g. some-left (tabulated n f) (f n ∷ []) (place-some n f i g h))
+      (λ g. some-right (tabulated n f) (f n ∷ []) (inl (subst (λ (j : ℕ). P (f j)) (omega arith) h)))
 
 -- ---- those in force
 

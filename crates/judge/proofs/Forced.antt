@@ -7,14 +7,14 @@ use lib.ListN.{take}
 use lib.Seq.{getD-take}
 use Rattle.basics.proofs.Bitmaps.{marked-holds}
 use Rattle.aspif.specs.Statements.{Line}
-use Rattle.aspif.specs.Words.{word}
+use Rattle.aspif.specs.inner.Words.{word}
 use Rattle.diffs.specs.Diff.{Diff}
-use Rattle.diffs.specs.Answer.{at, diffAt, Among}
+use Rattle.diffs.specs.inner.Answer.{cell, diffAt, Among}
 use Rattle.terms.specs.Terms.{Stated, Lists}
-use Rattle.terms.specs.Tables.{heldAt}
+use Rattle.terms.specs.inner.Tables.{heldAt}
 use Rattle.terms.proofs.Stating.{says-listed, listed-says}
 use Rattle.judge.specs.Plan.{Held, InForce}
-use Rattle.judge.specs.Stages.{stated, Stating, readyAt, inForce, Gathered}
+use Rattle.judge.specs.inner.Stages.{stated, Stating, readyAt, inForce, Gathered}
 use Rattle.judge.proofs.Firsts.{some-place, place-some, force-lists, lists-force}
 
 module _ (ls : List Line) (m : ℕ) (atoms xs ys : List ℕ) (ks : List ℤ) (h : Stating ls m atoms xs ys ks)
@@ -30,7 +30,7 @@ module _ (ls : List Line) (m : ℕ) (atoms xs ys : List ℕ) (ks : List ℤ) (h 
   cut-is i l = rw (getD-take n gxs i 0 l, getD-take n gys i 0 l, getD-take n gks i (pos 0) l)
 
   -- and so have the labels
-  label-is : (i : ℕ) → i < n → at (take n labels) i ≡ word labels i
+  label-is : (i : ℕ) → i < n → cell (take n labels) i ≡ word labels i
   unfolding word
   label-is i l = getD-take n labels i 0 l
 
@@ -43,13 +43,13 @@ module _ (ls : List Line) (m : ℕ) (atoms xs ys : List ℕ) (ks : List ℤ) (h 
       record { holds = marked-holds x (word labels i) ∙ f .1; says = listed-says ls (stated m atoms xs ys ks) (h .stated) (word labels i) d (f .0) }
 
   -- each difference that was gathered is said by its label, which holds
-  pub cut-held : (i : ℕ) → i < n → Held (readyAt ls x) (at (take n labels) i) (diffAt (take n gxs) (take n gys) (take n gks) i)
+  pub cut-held : (i : ℕ) → i < n → Held (readyAt ls x) (cell (take n labels) i) (diffAt (take n gxs) (take n gys) (take n gks) i)
   unfolding cut
   cut-held i l = rw (label-is i l, cut-is i l) (held-at i l)
 
   -- what was gathered is in force
   pub among-force : (d : Diff) → Among n (diffAt (take n gxs) (take n gys) (take n gks)) d → InForce (readyAt ls x) d
-  among-force d q = record { atom = at (take n labels) (q .number); held = rw (q .is) at (cut-held (q .number) (q .within)) }
+  among-force d q = record { atom = cell (take n labels) (q .number); held = rw (q .is) at (cut-held (q .number) (q .within)) }
 
   -- what is in force was gathered
   pub force-among : (d : Diff) → InForce (readyAt ls x) d → Among n (diffAt (take n gxs) (take n gys) (take n gks)) d

@@ -7,18 +7,19 @@ use borrow.Author.Tests.{ltb-true, ltb-false, lt-ltb}
 use lib.Dec.{ltb, lit<}
 use lib.ListN.{length, take, length-take}
 use lib.Seq.{take-all}
+use Rattle.faults.specs.Limits.{longestText}
 use Rattle.aspif.proofs.Fronts.{candidate-front}
 use Rattle.judge.specs.Plan.{Asked, Rooms, legible, pair, readable}
-use Rattle.judge.specs.Fronts.{front, Fronts}
+use Rattle.judge.specs.Fronts.{fronts, Fronts}
 
 -- a text is too long in both forms or is not cut; a candidate is read from its first 20,481 bytes
-readable-front : (n : ℕ) (a : Asked) (b : Rooms) → 60000 < n → readable (front n a) b ≡ readable a b
+readable-front : (n : ℕ) (a : Asked) (b : Rooms) → longestText < n → readable (fronts n a) b ≡ readable a b
 unfolding readable legible pair
-readable-front n a b h = go (ltb 60000 (length (a .text))) refl
+readable-front n a b h = go (ltb longestText (length (a .text))) refl
   where
-    go : (t : Bool) → ltb 60000 (length (a .text)) ≡ t → readable (front n a) b ≡ readable a b
-    go true q = rw (lt-ltb 60000 (length (take n (a .text))) (omega (arith, length-take n (a .text), ltb-true 60000 (length (a .text)) q)), q)
-    go false q = rw (take-all n (a .text) (omega (arith, ltb-false 60000 (length (a .text)) q)), candidate-front n (a .cand) (omega arith))
+    go : (t : Bool) → ltb longestText (length (a .text)) ≡ t → readable (fronts n a) b ≡ readable a b
+    go true q = rw (lt-ltb longestText (length (take n (a .text))) (omega (arith, length-take n (a .text), ltb-true longestText (length (a .text)) q)), q)
+    go false q = rw (take-all n (a .text) (omega (arith, ltb-false longestText (length (a .text)) q)), candidate-front n (a .cand) (omega arith))
 
 -- the judge gives for the first 65,536 bytes of both what it gives for all
 pub fronts-enough : Fronts

@@ -8,13 +8,15 @@ use borrow.Author.Tests.{eq-eqb, ne-eqb}
 use lib.IntN.{ℤ, pos}
 use lib.ListN.{length, getD, set, length-set, take}
 use lib.Seq.{getD-set-same, getD-set-other, getD-take, length-take-le}
-use Rattle.aspif.specs.Words.{word}
+use Rattle.faults.specs.Limits.{lastAtom}
+use Rattle.faults.specs.inner.Places.{atomPlaces}
+use Rattle.aspif.specs.inner.Words.{word}
 use Rattle.terms.specs.Terms.{Stated}
-use Rattle.terms.specs.Tables.{firsts, heldAt}
-use Rattle.terms.specs.Values.{Roomy}
-use Rattle.terms.proofs.Turns.{firsts-same}
-use Rattle.judge.specs.Stages.{stated, inForce, Gathered, Filled, SmallStated, Labelled, Candidate}
-use Rattle.judge.proofs.Firsts.{length-firsts, in-force-append, firsts-all, all-force}
+use Rattle.terms.specs.inner.Tables.{tabulated, heldAt}
+use Rattle.terms.specs.inner.Values.{Roomy}
+use Rattle.terms.proofs.Turns.{tabulated-same}
+use Rattle.judge.specs.inner.Stages.{stated, inForce, Gathered, Filled, SmallStated, Labelled, Candidate}
+use Rattle.judge.proofs.Firsts.{length-tabulated, in-force-append, tabulated-all, all-force}
 use Rattle.judge.proofs.Few.{few-force}
 
 -- ---- one place more
@@ -34,8 +36,8 @@ module _ (labels xs ys : List ℕ) (ks : List ℤ) (n a x y : ℕ) (k : ℤ)
 
   -- so the list has one more at its end
   one-more : stated (suc n) (set labels n a) (set xs n x) (set ys n y) (set ks n k) ≡ stated n labels xs ys ks ++ (record { atom = a; says = record { x = x; y = y; k = k } } ∷ [])
-  unfolding firsts
-  one-more = rw (firsts-same n (heldAt (set labels n a) (set xs n x) (set ys n y) (set ks n k)) (heldAt labels xs ys ks) (λ i h. others i (λ e. omega arith)), this)
+  unfolding tabulated
+  one-more = rw (tabulated-same n (heldAt (set labels n a) (set xs n x) (set ys n y) (set ks n k)) (heldAt labels xs ys ks) (λ i h. others i (λ e. omega arith)), this)
 
 -- ---- the loop
 
@@ -56,7 +58,7 @@ pub record Going (atoms xs ys : List ℕ) (ks : List ℤ) (m : ℕ) (x labels gx
 
 -- nothing is gathered
 pub going-start : (atoms xs ys : List ℕ) (ks : List ℤ) (m : ℕ) (x : List ℕ) → Filled m atoms xs ys ks → Going atoms xs ys ks m x atoms xs ys ks 0 0
-unfolding inForce firsts
+unfolding inForce tabulated
 going-start atoms xs ys ks m x f = record { alike = record { for-atoms = refl; for-xs = refl; for-ys = refl; for-ks = refl }; roomy = f .roomy; within = omega arith; so-far = record { few = omega arith; is = refl }; ahead = λ j h. refl }
 
 module _ (atoms xs ys : List ℕ) (ks : List ℤ) (m : ℕ) (x labels gxs gys : List ℕ) (gks : List ℤ) where
@@ -66,15 +68,15 @@ module _ (atoms xs ys : List ℕ) (ks : List ℤ) (m : ℕ) (x labels gxs gys : 
     here = g .ahead i (omega arith)
 
     -- and its atom is to 4,096
-    pub going-small : Filled m atoms xs ys ks → getD labels i 0 < 4097
+    pub going-small : Filled m atoms xs ys ks → getD labels i 0 < atomPlaces
     unfolding word
     going-small f =
         let e : word labels i ≡ word atoms i = ap (λ (s : Stated). s .atom) here in
-        omega (arith, e, firsts-all SmallStated m (heldAt atoms xs ys ks) (f .small) i l .1)
+        omega (arith, e, tabulated-all SmallStated m (heldAt atoms xs ys ks) (f .small) i l .1)
 
     -- one more is passed
     passed : inForce x (stated (i + 1) atoms xs ys ks) ≡ inForce x (stated i atoms xs ys ks) ++ inForce x (heldAt labels gxs gys gks i ∷ [])
-    unfolding firsts
+    unfolding tabulated
     passed = rw (add-one i, here, in-force-append x (stated i atoms xs ys ks) (heldAt atoms xs ys ks i ∷ []))
 
     -- difference i is not in force
@@ -90,9 +92,9 @@ module _ (atoms xs ys : List ℕ) (ks : List ℤ) (m : ℕ) (x labels gxs gys : 
         }
 
     -- difference i is in force
-    pub going-take : m ≤ 4097 → getD x (getD labels i 0) 0 ≡ 1 → (k : ℤ) → k ≡ getD gks i (pos 0)
+    pub going-take : m ≤ atomPlaces → getD x (getD labels i 0) 0 ≡ 1 → (k : ℤ) → k ≡ getD gks i (pos 0)
         → Going atoms xs ys ks m x (set labels n (getD labels i 0)) (set gxs n (getD gxs i 0)) (set gys n (getD gys i 0)) (set gks n k) (n + 1) (i + 1)
-    unfolding inForce firsts word
+    unfolding inForce tabulated word
     going-take f h k e =
         let p = g .roomy in
         let few : n ≤ i = g .so-far .few in
@@ -131,18 +133,18 @@ module _ (m : ℕ) (atoms xs ys : List ℕ) (ks : List ℤ) (f : Filled m atoms 
     (g : Gathered m (inForce x (stated m atoms xs ys ks)) n labels gxs gys gks) where
   -- each that was gathered is within the bounds
   within : (i : ℕ) → i < n → SmallStated (heldAt labels gxs gys gks i)
-  within = firsts-all SmallStated n (heldAt labels gxs gys gks) (rw (g .is) (all-force x SmallStated (stated m atoms xs ys ks) (f .small)))
+  within = tabulated-all SmallStated n (heldAt labels gxs gys gks) (rw (g .is) (all-force x SmallStated (stated m atoms xs ys ks) (f .small)))
 
   -- they are at most as many as there are atoms
-  gathered-few : n ≤ 4096
+  gathered-few : n ≤ lastAtom
   gathered-few =
-      omega (arith, length-firsts n (heldAt labels gxs gys gks), ap length (g .is), few-force x (cand .none) (stated m atoms xs ys ks) (f .differ) (f .small))
+      omega (arith, length-tabulated n (heldAt labels gxs gys gks), ap length (g .is), few-force x (cand .none) (stated m atoms xs ys ks) (f .differ) (f .small))
 
   -- the parts of the slices that were filled are what the times are found of
   pub gathered-labelled : Roomy labels gxs gys gks → Labelled (take n labels) (take n gxs) (take n gys) (take n gks)
   unfolding word
   gathered-labelled p =
-      let few : n ≤ 4096 = gathered-few in
+      let few : n ≤ lastAtom = gathered-few in
       let ll : length (take n labels) ≡ n = length-take-le n labels (omega (arith, p .for-atoms)) in
       let lx : length (take n gxs) ≡ n = length-take-le n gxs (omega (arith, p .for-xs)) in
       let ly : length (take n gys) ≡ n = length-take-le n gys (omega (arith, p .for-ys)) in

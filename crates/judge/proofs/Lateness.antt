@@ -7,17 +7,19 @@ use borrow.Author.Tests.{lt-ltb, le-ltb}
 use lib.ListN.{length, getD}
 use lib.IntN.{ℤ, pos, negsuc, negℤ}
 use lib.Signed.{_≤ℤ_}
+use Rattle.faults.specs.Limits.{largestNumber, tableRoom}
+use Rattle.faults.specs.inner.Places.{termPlaces}
 use Rattle.faults.specs.Answer.{got, refused}
 use Rattle.basics.specs.inner.Bitmaps.{markedFrom}
-use Rattle.aspif.specs.Words.{Between}
+use Rattle.aspif.specs.inner.Kept.{FromTo}
 use Rattle.diffs.specs.Diff.{Diff, Earliest}
-use Rattle.diffs.specs.Answer.{at, diffAt, Among}
+use Rattle.diffs.specs.inner.Answer.{cell, diffAt, Among}
 use Rattle.diffs.proofs.Integers.{up-le, neg-up}
-use Rattle.diffs.proofs.Latest.{latest}
-use Rattle.timetable.specs.Given.{timeAt}
+use Rattle.diffs.proofs.Latest.{latest-time}
+use Rattle.timetable.specs.inner.Given.{timeAt}
 use Rattle.timetable.proofs.Marks.{marked-none, marked-pass, marked-take}
 use Rattle.judge.specs.Judged.{inTime}
-use Rattle.judge.specs.Stages.{Labelled, Candidate, Writable}
+use Rattle.judge.specs.inner.Stages.{Labelled, Candidate, Writable}
 
 module _ (names times : List ℕ) (i : ℕ) where
   -- i is not marked
@@ -42,29 +44,29 @@ module _ (names times : List ℕ) (i : ℕ) where
 -- ---- no time is late
 
 -- the bounds go down to -1,000,000
-least-bound : (k : ℤ) → Between 1000000 1000000 k → negℤ (pos 1000000) ≤ℤ k
-least-bound (pos n) h = up-le (omega (arith, neg-up (pos 1000000)))
-least-bound (negsuc n) h = up-le (omega (arith, neg-up (pos 1000000)))
+least-bound : (k : ℤ) → FromTo largestNumber largestNumber k → negℤ (pos largestNumber) ≤ℤ k
+least-bound (pos n) h = up-le (omega (arith, neg-up (pos largestNumber)))
+least-bound (negsuc n) h = up-le (omega (arith, neg-up (pos largestNumber)))
 
 module _ (labels xs ys : List ℕ) (ks : List ℤ) (w : Labelled labels xs ys ks) (u : ℕ → ℕ) (e : Earliest (Among (length ks) (diffAt xs ys ks)) u) where
   -- the names are below 1,024
-  named : (d : Diff) → Among (length ks) (diffAt xs ys ks) d → (d .x < 1024) × (d .y < 1024)
-  named d q = subst (λ (s : Diff). (s .x < 1024) × (s .y < 1024)) (q .is) (w .slices .named (q .number) (q .within))
+  named : (d : Diff) → Among (length ks) (diffAt xs ys ks) d → (d .x < termPlaces) × (d .y < termPlaces)
+  named d q = subst (λ (s : Diff). (s .x < termPlaces) × (s .y < termPlaces)) (q .is) (w .slices .named (q .number) (q .within))
 
   -- no bound is below -1,000,000
-  bounded : (d : Diff) → Among (length ks) (diffAt xs ys ks) d → negℤ (pos 1000000) ≤ℤ d .k
-  bounded d q = least-bound (d .k) (subst (λ (s : Diff). Between 1000000 1000000 (s .k)) (q .is) (w .bounded (q .number) (q .within)))
+  bounded : (d : Diff) → Among (length ks) (diffAt xs ys ks) d → negℤ (pos largestNumber) ≤ℤ d .k
+  bounded d q = least-bound (d .k) (subst (λ (s : Diff). FromTo largestNumber largestNumber (s .k)) (q .is) (w .bounded (q .number) (q .within)))
 
   -- no earliest time is above 1,023,000,000
   pub never-late : (v : ℕ) → u v ≤ 1023000000
-  never-late v = latest (Among (length ks) (diffAt xs ys ks)) 1024 1000000 named bounded u e v
+  never-late v = latest-time (Among (length ks) (diffAt xs ys ks)) termPlaces largestNumber named bounded u e v
 
 -- times that are the earliest can be written
 pub earliest-writable : (labels xs ys : List ℕ) (ks : List ℤ) → Labelled labels xs ys ks → (names times x room : List ℕ)
-    → Earliest (Among (length ks) (diffAt xs ys ks)) (at times)
-    → length names ≡ 1024 → length times ≡ 1024 → Candidate x → 24592 ≤ length room → Writable names times x room
+    → Earliest (Among (length ks) (diffAt xs ys ks)) (cell times)
+    → length names ≡ termPlaces → length times ≡ termPlaces → Candidate x → tableRoom ≤ length room → Writable names times x room
 earliest-writable labels xs ys ks w names times x room e n t c r =
     record {
       sized = record { names-long = n; times-long = t; atoms-long = c .places; room-long = r };
-      timely = record { each = λ v m. never-late labels xs ys ks w (at times) e v };
+      timely = record { each = λ v m. never-late labels xs ys ks w (cell times) e v };
     }

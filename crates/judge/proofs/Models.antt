@@ -4,12 +4,13 @@ use mathlib.Core.Path.{_≡_, refl, sym, ap, subst, _∙_}
 use mathlib.Core.Bool.{Bool, true, false, not, _&&_, _||_, true≢false}
 use mathlib.Core.List.{List, [], _∷_}
 use mathlib.Core.Logic.{inl, inr, ⊎-elim}
+use mathlib.Core.Option.{Option, some, none}
 use native.Mathlib.Omega.{arith}
 use borrow.Author.Tests.{eqb-true, eq-eqb}
 use Rattle.basics.specs.Lists.{among, All}
 use Rattle.basics.proofs.Bools.{and-cases}
-use Rattle.aspif.specs.Statements.{Head, empty, single, choice, Statement, rule, output, numeric, string, compound, element, theory, guarded, comment, Line}
-use Rattle.stable.specs.Meaning.{Atoms, Says, bodyTrue, kept, positives, reductHead, Closed, Least, Founded, SmallestUnfounded}
+use Rattle.aspif.specs.Statements.{Head, empty, single, choice, Line, Rule, ruleIn}
+use Rattle.stable.specs.Meaning.{Atoms, HasRule, bodyTrue, kept, reduced, reductHead, Closed, InLeast, Founded, SmallestUnfounded}
 use Rattle.judge.proofs.Ascent.{member, of-member}
 
 -- ---- the test
@@ -24,21 +25,14 @@ headCarries X S empty = true
 headCarries X S (single a) = S a
 headCarries X S (choice hs) = carries X S hs
 
-abbrev ruleCarries : (X S : Atoms) → Statement → Bool
-ruleCarries X S (rule h b) = not (kept X b && bodyTrue S (positives b)) || headCarries X S h
-ruleCarries X S (output bs b) = true
-ruleCarries X S (numeric u w) = true
-ruleCarries X S (string u bs) = true
-ruleCarries X S (compound u t us) = true
-ruleCarries X S (element v us b) = true
-ruleCarries X S (theory a p vs) = true
-ruleCarries X S (guarded a p vs g u) = true
-ruleCarries X S (comment bs) = true
+abbrev ruleCarries : (X S : Atoms) → Option Rule → Bool
+ruleCarries X S none = true
+ruleCarries X S (some r) = not (kept X (r .body) && bodyTrue S (reduced (r .body))) || headCarries X S (r .head)
 
 -- S has the head of each rule of the reduct by X whose body is true in S
 abbrev pub allCarry : (X S : Atoms) → List Line → Bool
 allCarry X S [] = true
-allCarry X S (l ∷ ls) = ruleCarries X S (l .says) && allCarry X S ls
+allCarry X S (l ∷ ls) = ruleCarries X S (ruleIn (l .says)) && allCarry X S ls
 
 -- ---- what it shows
 
@@ -60,21 +54,21 @@ module _ (X S : Atoms) where
   head-carried (single c) e a r = ap S (eqb-true a c r) ∙ e
   head-carried (choice hs) e a r = carried hs e a (and-cases (among a hs) (X a) r .0) (and-cases (among a hs) (X a) r .1)
 
-  said-carried : (ls : List Line) → allCarry X S ls ≡ true → (s : Statement) → Says ls s → ruleCarries X S s ≡ true
-  said-carried [] h s n = absurd n
-  said-carried (l ∷ ls) h s (inl e) = subst (λ (x : Statement). ruleCarries X S x ≡ true) e (and-cases (ruleCarries X S (l .says)) (allCarry X S ls) h .0)
-  said-carried (l ∷ ls) h s (inr n) = said-carried ls (and-cases (ruleCarries X S (l .says)) (allCarry X S ls) h .1) s n
+  said-carried : (ls : List Line) → allCarry X S ls ≡ true → (r : Rule) → HasRule ls r → ruleCarries X S (some r) ≡ true
+  said-carried [] h r n = absurd n
+  said-carried (l ∷ ls) h r (inl e) = subst (λ (x : Option Rule). ruleCarries X S x ≡ true) e (and-cases (ruleCarries X S (ruleIn (l .says))) (allCarry X S ls) h .0)
+  said-carried (l ∷ ls) h r (inr n) = said-carried ls (and-cases (ruleCarries X S (ruleIn (l .says))) (allCarry X S ls) h .1) r n
 
 -- S is a model of the reduct by a candidate, if the test holds of each rule and of each external atom
 pub model : (cs : List ℕ) (ext : Atoms) (ls : List Line) (S : Atoms) → carries ext S cs ≡ true → allCarry (λ a. among a cs) S ls ≡ true → Closed (λ a. among a cs) ext ls S
 model cs ext ls S f h = record {
   facts = λ a e x. carried ext S cs f a x e;
-  rules = λ d b n kp bo a r. head-carried (λ c. among c cs) S d (then (kept (λ c. among c cs) b && bodyTrue S (positives b)) _ (said-carried (λ c. among c cs) S ls h (rule d b) n) (rw (kp, bo))) a r;
+  rules = λ r n kp bo a e. head-carried (λ c. among c cs) S (r .head) (then (kept (λ c. among c cs) (r .body) && bodyTrue S (reduced (r .body))) _ (said-carried (λ c. among c cs) S ls h r n) (rw (kp, bo))) a e;
 }
 
 -- where each atom of a candidate is in every model of the reduct, none is unfounded
-pub founded-by : (cs : List ℕ) (ext : Atoms) (ls : List Line) → All (Least (λ a. among a cs) ext ls) cs → Founded (λ a. among a cs) ext ls
-founded-by cs ext ls h a u = u .outside (of-member (Least (λ c. among c cs) ext ls) cs a h (u .holds))
+pub founded-by : (cs : List ℕ) (ext : Atoms) (ls : List Line) → All (InLeast (λ a. among a cs) ext ls) cs → Founded (λ a. among a cs) ext ls
+founded-by cs ext ls h a u = u .outside (of-member (InLeast (λ c. among c cs) ext ls) cs a h (u .holds))
 
 -- the first atom of an ascending candidate is the smallest unfounded, if a model of the reduct lacks it
 pub unfounded-first : (c : ℕ) (cs : List ℕ) (ext : Atoms) (ls : List Line) (S : Atoms) → All (λ m. c ≤ m) cs

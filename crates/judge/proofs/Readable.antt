@@ -7,6 +7,7 @@ use native.Mathlib.Omega.{arith}
 use borrow.Author.Tests.{ltb-false, le-ltb}
 use lib.Dec.{ltb}
 use lib.ListN.{length}
+use Rattle.faults.specs.Limits.{cycleRoom, longestText, tableRoom}
 use Rattle.basics.specs.Bools.{pick}
 use Rattle.faults.specs.Answer.{Answer, got, refused, bind, mapped}
 use Rattle.aspif.specs.Statements.{Line}
@@ -20,45 +21,45 @@ never e = let z : _≡_ {A = ℕ} 0 1 = (cc) in omega arith
 
 -- what was read, of rooms that are long enough
 pub record Read (a : Asked) (b : Rooms) (q : Ready) : Type 0 where
-  pub room : 24592 ≤ length (b .room)
-  pub cycle : 1024 ≤ length (b .cycle)
-  pub short : length (a .text) ≤ 60000
+  pub room : tableRoom ≤ length (b .room)
+  pub cycle : cycleRoom ≤ length (b .cycle)
+  pub short : length (a .text) ≤ longestText
   pub lines : statements (a .text) ≡ got (q .lines)
   pub stated : List Stated
   pub sound : differences (q .lines) ≡ got stated
   pub atoms : candidate (a .cand) ≡ got (q .atoms)
 
 -- rooms that were lent are long enough
-long : (b : Rooms) {u : Unit {0}} → lent b ≡ got u → (24592 ≤ length (b .room)) × (1024 ≤ length (b .cycle))
+long : (b : Rooms) {u : Unit {0}} → lent b ≡ got u → (tableRoom ≤ length (b .room)) × (cycleRoom ≤ length (b .cycle))
 unfolding lent
-long b {u} = go (ltb (length (b .room)) 24592) (ltb (length (b .cycle)) 1024) refl refl
+long b {u} = go (ltb (length (b .room)) tableRoom) (ltb (length (b .cycle)) cycleRoom) refl refl
   where
-    go : (v w : Bool) → ltb (length (b .room)) 24592 ≡ v → ltb (length (b .cycle)) 1024 ≡ w
-        → pick v (refused 1 24592) (pick w (refused 1 1024) (got tt)) ≡ got u → (24592 ≤ length (b .room)) × (1024 ≤ length (b .cycle))
+    go : (v w : Bool) → ltb (length (b .room)) tableRoom ≡ v → ltb (length (b .cycle)) cycleRoom ≡ w
+        → pick v (refused 1 tableRoom) (pick w (refused 1 cycleRoom) (got tt)) ≡ got u → (tableRoom ≤ length (b .room)) × (cycleRoom ≤ length (b .cycle))
     go true w e f h = absurd (never h)
     go false true e f h = absurd (never h)
-    go false false e f h = (ltb-false (length (b .room)) 24592 e, ltb-false (length (b .cycle)) 1024 f)
+    go false false e f h = (ltb-false (length (b .room)) tableRoom e, ltb-false (length (b .cycle)) cycleRoom f)
 
 -- the lines of a text that is legible, and what they state
 record Legible (text : List ℕ) (ls : List Line) : Type 0 where
-  short : length text ≤ 60000
+  short : length text ≤ longestText
   lines : statements text ≡ got ls
   stated : List Stated
   sound : differences ls ≡ got stated
 
 legible-is : (text : List ℕ) (ls : List Line) → legible text ≡ got ls → Legible text ls
 unfolding legible
-legible-is text ls = go (ltb 60000 (length text)) (statements text) refl refl
+legible-is text ls = go (ltb longestText (length text)) (statements text) refl refl
   where
-    go₂ : (xs : List Line) → length text ≤ 60000 → statements text ≡ got xs → (a : Answer (List Stated)) → differences xs ≡ a
+    go₂ : (xs : List Line) → length text ≤ longestText → statements text ≡ got xs → (a : Answer (List Stated)) → differences xs ≡ a
         → mapped (λ (ds : List Stated). xs) a ≡ got ls → Legible text ls
     go₂ xs t s (got ds) d e = let z : xs ≡ ls = (cc) in record { short = t; lines = (cc); stated = ds; sound = rw z at d }
     go₂ xs t s (refused k p) d e = absurd (never e)
 
-    go : (w : Bool) (a : Answer (List Line)) → ltb 60000 (length text) ≡ w → statements text ≡ a
-        → pick w (refused 2 60000) (bind a (λ xs. mapped (λ (ds : List Stated). xs) (differences xs))) ≡ got ls → Legible text ls
+    go : (w : Bool) (a : Answer (List Line)) → ltb longestText (length text) ≡ w → statements text ≡ a
+        → pick w (refused 2 longestText) (bind a (λ xs. mapped (λ (ds : List Stated). xs) (differences xs))) ≡ got ls → Legible text ls
     go true a t s e = absurd (never e)
-    go false (got xs) t s e = go₂ xs (ltb-false 60000 (length text) t) s (differences xs) refl e
+    go false (got xs) t s e = go₂ xs (ltb-false longestText (length text) t) s (differences xs) refl e
     go false (refused k p) t s e = absurd (never e)
 
 -- a plan that is readable was read
@@ -81,9 +82,9 @@ read a b q = go (lent b) (legible (a .text)) (candidate (a .cand)) refl refl ref
 
 -- a plan that was read is readable
 pub readable-got : (a : Asked) (b : Rooms) {ls : List Line} {ds : List Stated} {cs : List ℕ}
-    → 24592 ≤ length (b .room) → 1024 ≤ length (b .cycle) → length (a .text) ≤ 60000
+    → tableRoom ≤ length (b .room) → cycleRoom ≤ length (b .cycle) → length (a .text) ≤ longestText
     → statements (a .text) ≡ got ls → differences ls ≡ got ds → candidate (a .cand) ≡ got cs
     → readable a b ≡ got (ready ls cs)
 unfolding readable lent legible pair
 readable-got a b h g l s d c =
-    rw (le-ltb (length (b .room)) 24592 h, le-ltb (length (b .cycle)) 1024 g, le-ltb 60000 (length (a .text)) l, s, d, c)
+    rw (le-ltb (length (b .room)) tableRoom h, le-ltb (length (b .cycle)) cycleRoom g, le-ltb longestText (length (a .text)) l, s, d, c)

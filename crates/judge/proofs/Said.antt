@@ -5,15 +5,15 @@ use mathlib.Core.List.{List}
 use native.Mathlib.Omega.{arith}
 use lib.IntN.{ℤ}
 use Rattle.aspif.specs.Statements.{Line}
-use Rattle.aspif.specs.Words.{word}
+use Rattle.aspif.specs.inner.Words.{word}
 use Rattle.diffs.specs.Diff.{Diff}
 use Rattle.terms.specs.Says.{Says}
 use Rattle.terms.specs.Terms.{Stated}
-use Rattle.terms.specs.Tables.{heldAt}
+use Rattle.terms.specs.inner.Tables.{heldAt}
 use Rattle.terms.proofs.Stating.{says-listed, listed-says, atoms-differ}
 use Rattle.terms.proofs.Bounds.{listed-small, listed-few}
-use Rattle.judge.specs.Stages.{stated, Stating, Filled}
-use Rattle.judge.proofs.Firsts.{length-firsts, Place, some-place, place-some}
+use Rattle.judge.specs.inner.Stages.{stated, Stating, Filled}
+use Rattle.judge.proofs.Firsts.{length-tabulated, Place, some-place, place-some}
 
 module _ (ls : List Line) (m : ℕ) (atoms xs ys : List ℕ) (ks : List ℤ) (h : Stating ls m atoms xs ys ks) where
   -- the atom at a place says the difference there
@@ -30,7 +30,7 @@ module _ (ls : List Line) (m : ℕ) (atoms xs ys : List ℕ) (ks : List ℤ) (h 
   pub stating-filled : Filled m atoms xs ys ks
   stating-filled =
       record {
-        few = omega (arith, length-firsts m (heldAt atoms xs ys ks), listed-few ls (stated m atoms xs ys ks) (h .stated) (h .small));
+        few = omega (arith, length-tabulated m (heldAt atoms xs ys ks), listed-few ls (stated m atoms xs ys ks) (h .stated) (h .small));
         roomy = h .roomy;
         small = listed-small ls (stated m atoms xs ys ks) (h .stated) (h .small);
         differ = atoms-differ ls (stated m atoms xs ys ks) (h .stated);

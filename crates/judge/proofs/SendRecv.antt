@@ -13,16 +13,14 @@ use lib.Signed.{_<ℤ_}
 use Rattle.faults.specs.Answer.{got}
 use Rattle.basics.specs.Bools.{pick}
 use Rattle.basics.specs.Lists.{among, Some}
-use Rattle.diffs.specs.Diff.{Diff, Keeps, KeepsAll, whole, Earliest, Sum, Cycle}
-use Rattle.diffs.specs.Answer.{LeastFirst}
+use Rattle.diffs.specs.Diff.{Diff, Keeps, KeepsAll, whole, Earliest, Sum, Cycle, LeastFirst}
 use Rattle.diffs.proofs.Cycles.{exclusive}
 use Rattle.diffs.proofs.EarliestTimes.{earliest-unique}
 use Rattle.diffs.proofs.Integers.{up-lt, add-up, neg-up, keeps-holds, holds-keeps}
 use Rattle.terms.specs.Says.{Name, Names}
 use Rattle.terms.specs.Terms.{Stated, differences}
 use Rattle.terms.proofs.Stating.{says-listed, listed-says}
-use Rattle.timetable.specs.Table.{tableOf}
-use Rattle.timetable.specs.Given.{recordsOf}
+use Rattle.timetable.specs.Table.{tableOf, recordsOf}
 use Rattle.judge.specs.Plan.{Rooms, Ready, Held, InForce}
 use Rattle.judge.specs.Judged.{Result, accepting, Each, NegativeCycle}
 use Rattle.judge.specs.Starred.{sendRecv}

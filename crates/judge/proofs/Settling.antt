@@ -6,20 +6,21 @@ use mathlib.Core.List.{List, [], _∷_, map}
 use native.Mathlib.Omega.{arith}
 use lib.IntN.{ℤ}
 use lib.ListN.{take, length-map}
+use Rattle.faults.specs.inner.Places.{termPlaces}
 use Rattle.basics.specs.Lists.{among, All}
 use Rattle.basics.specs.inner.Bitmaps.{markedFrom}
 use Rattle.aspif.specs.Statements.{Line}
 use Rattle.diffs.specs.Diff.{Diff, Earliest}
-use Rattle.diffs.specs.Answer.{at, diffAt, Among, Shown, Decided}
+use Rattle.diffs.specs.inner.Answer.{cell, diffAt, Among, Shown, Decided}
 use Rattle.diffs.specs.declared.Outcome.{Outcome}
-use Rattle.timetable.specs.Given.{timeAt}
+use Rattle.timetable.specs.inner.Given.{timeAt}
 use Rattle.judge.specs.Plan.{Rooms, Ready, Held, InForce}
 use Rattle.judge.specs.Judged.{Result, accepting, showing, table, Each, NegativeCycle, Timed}
 use Rattle.judge.specs.Values.{rooms, result}
-use Rattle.terms.specs.Marks.{Marks}
+use Rattle.terms.specs.inner.Marks.{MarksThose}
 use Rattle.terms.proofs.Naming.{names-are}
 use Rattle.judge.proofs.Said.{stating-filled}
-use Rattle.judge.specs.Stages.{stated, Stating, Candidate, readyAt, inForce, Filled, Gathered, Settled, shown, written}
+use Rattle.judge.specs.inner.Stages.{stated, Stating, Candidate, readyAt, inForce, Filled, Gathered, Settled, shown, written}
 use Rattle.judge.specs.declared.Verdict.{Verdict}
 use Rattle.judge.specs.declared.Verdict.the-variants.{Refused}
 use Rattle.judge.proofs.Bitmaps.{marked-atoms}
@@ -33,7 +34,7 @@ use Rattle.judge.specs.Judged as judged
 module _ (m : ℕ) (c : ℕ → Diff) (labels t cycle cycle′ : List ℕ) where
   -- the times are the earliest, and the cycle room is as it was
   pub record Quiet : Type 0 where
-    pub earliest : Earliest (Among m c) (at t)
+    pub earliest : Earliest (Among m c) (cell t)
     pub kept : cycle′ ≡ cycle
 
   -- times were found
@@ -53,7 +54,7 @@ module _ (m : ℕ) (c : ℕ → Diff) (labels names x room cycle t cycle′ : Li
       → Settled m c labels names x (rooms room cycle) (result v room′ cycle′)
   settled-times e v room′ w =
       let q = times-of m c labels t cycle cycle′ o d e in
-      written (at t) (q .earliest) (ap (λ (cs : List ℕ). result v room′ cs) (q .kept) ∙ w cycle)
+      written (cell t) (q .earliest) (ap (λ (cs : List ℕ). result v room′ cs) (q .kept) ∙ w cycle)
 
   -- the cycle of k differences
   pub settled-cycle : (k : ℕ) → o ≡ outcome.Cycle k → Settled m c labels names x (rooms room cycle) (result (Refused (record { kind = kind.Cycle; place = k })) room cycle′)
@@ -71,12 +72,12 @@ each-held q n f c h [] w = tt
 each-held q n f c h (i ∷ is) w = (h i (w .0), each-held q n f c h is (w .1))
 
 -- what is shown is a negative cycle of the plan
-shown-cycle : (q : Ready) (n : ℕ) (c : ℕ → Diff) (labels room room′ : List ℕ) (k : ℕ) → ((i : ℕ) → i < n → Held q (at labels i) (c i))
-    → (s : Shown n c labels room room′ k) → NegativeCycle q (map (at labels) (s .numbers))
+shown-cycle : (q : Ready) (n : ℕ) (c : ℕ → Diff) (labels room room′ : List ℕ) (k : ℕ) → ((i : ℕ) → i < n → Held q (cell labels i) (c i))
+    → (s : Shown n c labels room room′ k) → NegativeCycle q (map (cell labels) (s .numbers))
 shown-cycle q n c labels room room′ k h s =
     record {
       ds = map c (s .numbers);
-      each = each-held q n (at labels) c h (s .numbers) (s .within);
+      each = each-held q n (cell labels) c h (s .numbers) (s .within);
       cycle = s .negative .cycle;
       below = s .negative .below;
       least = s .least;
@@ -84,13 +85,13 @@ shown-cycle q n c labels room room′ k h s =
 
 -- the list stands in the cycle room
 shown-room : (b : Rooms) (n : ℕ) (c : ℕ → Diff) (labels cycle : List ℕ) (k : ℕ) (s : Shown n c labels (b .cycle) cycle k)
-    → record { verdict = judged.refusal 10 k; rooms = record { room = b .room; cycle = cycle } } ≡ showing b (map (at labels) (s .numbers))
-shown-room b n c labels cycle k s = rw (length-map (s .numbers) (at labels), s .shown, s .count)
+    → record { verdict = judged.refusal 10 k; rooms = record { room = b .room; cycle = cycle } } ≡ showing b (map (cell labels) (s .numbers))
+shown-room b n c labels cycle k s = rw (length-map (s .numbers) (cell labels), s .shown, s .count)
 
 module _ (ls : List Line) (m : ℕ) (atoms xs ys : List ℕ) (ks : List ℤ) (h : Stating ls m atoms xs ys ks)
     (x : List ℕ) (cand : Candidate x) (n : ℕ) (labels gxs gys : List ℕ) (gks : List ℤ)
     (g : Gathered m (inForce x (stated m atoms xs ys ks)) n labels gxs gys gks)
-    (names : List ℕ) (e : Marks 1024 names (λ i. among i (take m xs) || among i (take m ys))) (b : Rooms) (r : Result) where
+    (names : List ℕ) (e : MarksThose termPlaces names (λ i. among i (take m xs) || among i (take m ys))) (b : Rooms) (r : Result) where
   filled : Filled m atoms xs ys ks
   filled = stating-filled ls m atoms xs ys ks h
 
@@ -98,7 +99,7 @@ module _ (ls : List Line) (m : ℕ) (atoms xs ys : List ℕ) (ks : List ℤ) (h 
   pub settled-timed : (k : ℕ) → k ≡ n → Settled k (diffAt (take n gxs) (take n gys) (take n gks)) (take n labels) names x b r → Timed (readyAt ls x) b r
   unfolding markedFrom
   settled-timed k z (shown j cycle s q) =
-      judged.cyclic (map (at (take n labels)) (s .numbers))
+      judged.cyclic (map (cell (take n labels)) (s .numbers))
       (shown-cycle (readyAt ls x) k _ _ _ _ _ (λ i l. cut-held ls m atoms xs ys ks h x n labels gxs gys gks g i (omega arith)) s)
       (q ∙ shown-room b k _ _ _ _ s)
   settled-timed k z (written u t q) =

@@ -8,15 +8,16 @@ use native.Mathlib.Omega.{arith}
 use lib.Dec.{eqb, lit≤, lit<}
 use lib.IntN.{pos, negsuc, negℤ, _+ℤ_}
 use lib.ListN.{length}
+use Rattle.faults.specs.Limits.{cycleRoom, tableRoom}
 use Rattle.faults.specs.Answer.{got}
 use Rattle.basics.specs.Lists.{among}
-use Rattle.aspif.specs.Statements.{positive, single, choice, Line}
+use Rattle.aspif.specs.Statements.{Literal, positive, Head, single, choice, normal, Line, Rule}
 use Rattle.aspif.specs.Candidate.{candidate}
 use Rattle.diffs.specs.Diff.{whole}
 use Rattle.diffs.proofs.EarliestTimes.{earliest-unique}
 use Rattle.terms.specs.Says.{headed}
 use Rattle.terms.specs.Terms.{Stated, taken, external}
-use Rattle.stable.specs.Meaning.{Atoms, Least, Founded, firstBroken, unbroken, brokenAt}
+use Rattle.stable.specs.Meaning.{Atoms, InLeast, Founded, firstBroken, unbroken, brokenAt}
 use Rattle.timetable.proofs.Writing.{length-table}
 use Rattle.judge.specs.Plan.{Asked, Rooms, Ready, asked, ready, readable, InForce}
 use Rattle.judge.specs.Judged.{acceptance, Result, showing, Judged}
@@ -28,15 +29,15 @@ use Rattle.judge.proofs.Readable.{readable-got}
 use Rattle.judge.proofs.Demand2.{Table, Ending, at-eight, at-nine, at-ten, at-end, ending, demand-2}
 use Rattle.judge.proofs.Models.{model, founded-by, unfounded-first}
 use Rattle.judge.proofs.SendRecv.{times, held-two, held-three, two-names, two-times, two-table, no-two-times, two-cycle}
-use Rattle.judge.proofs.Texts.{Says, linesP, linesExternal, linesLoop, linesOdd, two, three, stated, candidates, texts}
+use Rattle.judge.proofs.Texts.{SaysLines, linesP, linesExternal, linesLoop, linesOdd, two, three, stated, candidates, texts}
 
 -- ---- from what was computed of a text and a candidate to what is allowed
 
-module _ (a : Asked) (ls : List Line) (ds : List Stated) (cs : List ℕ) (s : Says (a .text) ls ds) (c : candidate (a .cand) ≡ got cs) where
+module _ (a : Asked) (ls : List Line) (ds : List Stated) (cs : List ℕ) (s : SaysLines (a .text) ls ds) (c : candidate (a .cand) ≡ got cs) where
   abbrev plan : Ready
   plan = ready ls cs
 
-  reads : (b : Rooms) → 24592 ≤ length (b .room) → 1024 ≤ length (b .cycle) → readable a b ≡ got plan
+  reads : (b : Rooms) → tableRoom ≤ length (b .room) → cycleRoom ≤ length (b .cycle) → readable a b ≡ got plan
   reads b h g = readable-got a b h g (s .short) (s .lines) (s .stated) c
 
   -- 8
@@ -48,11 +49,11 @@ module _ (a : Asked) (ls : List Line) (ds : List Stated) (cs : List ℕ) (s : Sa
   nine n e u b r h g i = demand-2 a b plan r (reads b h g) i .smallest-unfounded n .1 (e, u)
 
 -- of plans that say recv - send ≤ k and send - recv ≤ - j
-module _ (a : Asked) (ls : List Line) (k j : ℕ) (cs : List ℕ) (s : Says (a .text) ls (stated k j)) (c : candidate (a .cand) ≡ got cs) where
+module _ (a : Asked) (ls : List Line) (k j : ℕ) (cs : List ℕ) (s : SaysLines (a .text) ls (stated k j)) (c : candidate (a .cand) ≡ got cs) where
   abbrev plan₂ : Ready
   plan₂ = plan a ls (stated k j) cs s c
 
-  module _ (b : Rooms) (r : Result) (h : 24592 ≤ length (b .room)) (g : 1024 ≤ length (b .cycle)) where
+  module _ (b : Rooms) (r : Result) (h : tableRoom ≤ length (b .room)) (g : cycleRoom ≤ length (b .cycle)) where
     sums : among 2 cs ≡ true → among 3 cs ≡ true → Sums a (2 ∷ 3 ∷ []) (pos k +ℤ (negℤ (pos j) +ℤ pos 0)) b
     sums e f = record {
       plan = plan₂;
@@ -124,15 +125,18 @@ rules = record {
 
 -- ---- founded and unfounded atoms
 
+abbrev the : Head → List Literal → Rule
+the h ls = record { head = h; body = normal ls }
+
 module _ (five eight a c : ℕ) (ext : Atoms) where
-  least-3 : (X : Atoms) → Least X ext (linesP five eight a c) 3
-  least-3 X S m = m .rules (single 3) [] (inr (inr (inl refl))) refl refl 3 refl
+  least-3 : (X : Atoms) → InLeast X ext (linesP five eight a c) 3
+  least-3 X S m = m .rules (the (single 3) []) (inr (inr (inl refl))) refl refl 3 refl
 
-  least-1 : Least (λ n. among n (1 ∷ 2 ∷ 3 ∷ [])) ext (linesP five eight a c) 1
-  least-1 S m = m .rules (choice (1 ∷ [])) [] (inl refl) refl refl 1 refl
+  least-1 : InLeast (λ n. among n (1 ∷ 2 ∷ 3 ∷ [])) ext (linesP five eight a c) 1
+  least-1 S m = m .rules (the (choice (1 ∷ [])) []) (inl refl) refl refl 1 refl
 
-  least-2 : Least (λ n. among n (1 ∷ 2 ∷ 3 ∷ [])) ext (linesP five eight a c) 2
-  least-2 S m = m .rules (single 2) (positive 1 ∷ []) (inr (inl refl)) refl (rw (least-1 S m)) 2 refl
+  least-2 : InLeast (λ n. among n (1 ∷ 2 ∷ 3 ∷ [])) ext (linesP five eight a c) 2
+  least-2 S m = m .rules (the (single 2) (positive 1 ∷ [])) (inr (inl refl)) refl (rw (least-1 S m)) 2 refl
 
   founded-1-2-3 : Founded (λ n. among n (1 ∷ 2 ∷ 3 ∷ [])) ext (linesP five eight a c)
   founded-1-2-3 = founded-by (1 ∷ 2 ∷ 3 ∷ []) ext (linesP five eight a c) (least-1, (least-2, (least-3 (λ n. among n (1 ∷ 2 ∷ 3 ∷ [])), tt)))
@@ -145,7 +149,7 @@ external-founded : Founded (λ n. among n (2 ∷ 3 ∷ [])) (external linesExter
 unfolding taken headed
 external-founded =
     founded-by (2 ∷ 3 ∷ []) (external linesExternal) linesExternal
-    (λ S m. m .facts 2 refl refl, (λ S m. m .rules (single 3) [] (inr (inl refl)) refl refl 3 refl, tt))
+    (λ S m. m .facts 2 refl refl, (λ S m. m .rules (the (single 3) []) (inr (inl refl)) refl refl 3 refl, tt))
 
 -- without atom 1 only 3 is in the least model of P
 p-unfounded : UnfoundedAt (ready (linesP 40 5 117 167) (2 ∷ 3 ∷ [])) 2

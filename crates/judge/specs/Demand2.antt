@@ -1,4 +1,4 @@
--- Demand 2, as one statement about what `Judged` allows. Assumes nothing.
+-- Believed: demand 2, as one statement about what `Judged` allows. Assumes nothing.
 use Prim.Native.Nat.{ℕ}
 use mathlib.Core.Path.{_≡_}
 use mathlib.Core.Logic.{_⊎_, _↔_}
@@ -10,9 +10,8 @@ use Rattle.diffs.specs.Diff.{KeepsAll, Earliest}
 use Rattle.terms.specs.Says.{Name, Names}
 use Rattle.terms.specs.Terms.{external}
 use Rattle.stable.specs.Meaning.{unbroken, brokenAt, firstBroken, Founded, SmallestUnfounded, Stable}
-use Rattle.timetable.specs.Table.{tableOf}
+use Rattle.timetable.specs.Table.{tableOf, recordsOf}
 use Rattle.timetable.specs.Times.{timeOf}
-use Rattle.timetable.specs.Given.{recordsOf}
 use Rattle.judge.specs.Plan.{Asked, Rooms, Ready, holds, readable, InForce}
 use Rattle.judge.specs.Judged.{acceptance, Result, refusing, showing, accepting, NegativeCycle, Judged}
 

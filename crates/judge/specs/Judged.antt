@@ -1,4 +1,4 @@
--- What the judge answers, and what both rooms hold then, for every input: document 01, 'Verdicts'.
+-- Believed: what the judge answers, and what both rooms hold then, for every input: document 01, 'Verdicts'.
 -- Four steps in the order of the refusals' numbers; each is left by a refusal or goes on to the next. Assumes nothing.
 use Prim.Native.Nat.{ℕ}
 use mathlib.Core.Path.{_≡_}
@@ -9,10 +9,8 @@ use lib.ListN.{length, drop}
 use lib.Signed.{_<ℤ_}
 use Rattle.basics.specs.Bools.{pick}
 use Rattle.faults.specs.Answer.{Answer, got, refused, mapped}
-use Rattle.diffs.specs.Diff.{Diff, Earliest, Sum, Cycle}
-use Rattle.diffs.specs.Answer.{LeastFirst}
-use Rattle.timetable.specs.Table.{tableOf}
-use Rattle.timetable.specs.Given.{recordsOf}
+use Rattle.diffs.specs.Diff.{Diff, Earliest, Sum, Cycle, LeastFirst}
+use Rattle.timetable.specs.Table.{tableOf, recordsOf}
 use Rattle.terms.specs.Says.{Names}
 use Rattle.terms.specs.Terms.{external}
 use Rattle.stable.specs.Meaning.{unbroken, brokenAt, firstBroken, Founded, SmallestUnfounded}
@@ -67,10 +65,14 @@ pub record NegativeCycle (q : Ready) (cs : List ℕ) : Type 0 where
 
 -- ---- 11
 
--- nothing; or 11 with the first of the names whose time is above 2,147,483,647
+-- the largest time that a timetable's field can hold
+abbrev pub largestTime : ℕ
+largestTime = 2147483647
+
+-- nothing; or 11 with the first of the names whose time is above it
 unfoldable pub inTime : List ℕ → (ℕ → ℕ) → Answer Unit
 inTime [] u = got tt
-inTime (n ∷ ns) u = pick (ltb 2147483647 (u n)) (refused 11 n) (inTime ns u)
+inTime (n ∷ ns) u = pick (ltb largestTime (u n)) (refused 11 n) (inTime ns u)
 
 -- the timetable of names with their times and of atoms, or 11
 unfoldable pub table : List ℕ → (ℕ → ℕ) → List ℕ → Answer (List ℕ)

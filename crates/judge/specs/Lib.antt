@@ -9,4 +9,4 @@ pub mod Bounds
 pub mod Fronts
 pub mod Texts
 pub mod Starred
-pub mod Stages
+pub mod inner

@@ -1,10 +1,11 @@
--- A readable plan with its candidate: refusals 1 to 7 in the order of document 01, 'Verdicts', and the rules that hold. Assumes nothing.
+-- Believed: a readable plan with its candidate: refusals 1 to 7 in the order of document 01, 'Verdicts', and the rules that hold. Assumes nothing.
 use Prim.Native.Nat.{ℕ}
 use mathlib.Core.Path.{_≡_}
 use mathlib.Core.Bool.{Bool, true}
 use mathlib.Core.List.{List}
 use lib.Dec.{ltb}
 use lib.ListN.{length}
+use Rattle.faults.specs.Limits.{longestText, tableRoom, cycleRoom}
 use Rattle.faults.specs.Answer.{Answer, got, refused, bind, mapped}
 use Rattle.basics.specs.Bools.{pick}
 use Rattle.basics.specs.Lists.{among}
@@ -45,14 +46,14 @@ holds q a = among a (q .atoms)
 -- what was lent, 1: a room too short, the timetable room first
 unfoldable pub lent : Rooms → Answer Unit
 lent b =
-    pick (ltb (length (b .room)) 24592) (refused 1 24592)
-    (pick (ltb (length (b .cycle)) 1024) (refused 1 1024)
+    pick (ltb (length (b .room)) tableRoom) (refused 1 tableRoom)
+    (pick (ltb (length (b .cycle)) cycleRoom) (refused 1 cycleRoom)
     (got tt))
 
 -- the text alone, 2 to 6: over 60,000 bytes; what it says; its terms
 unfoldable pub legible : (text : List ℕ) → Answer (List Line)
 legible text =
-    pick (ltb 60000 (length text)) (refused 2 60000)
+    pick (ltb longestText (length text)) (refused 2 longestText)
     (bind (statements text) (λ ls. mapped (λ (ds : List Stated). ls) (differences ls)))
 
 -- the candidate, 7: these lines with its atoms

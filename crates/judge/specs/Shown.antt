@@ -1,4 +1,4 @@
--- Showing a fault: document 01, the end of 'Verdicts'. Assumes nothing.
+-- Believed: showing a fault: document 01, the end of 'Verdicts'. Assumes nothing.
 use Prim.Native.Nat.{ℕ, _+_, min}
 use mathlib.Core.Path.{_≡_}
 use mathlib.Core.Bool.{Bool, true, _||_}
@@ -7,11 +7,11 @@ use lib.Dec.{eqb}
 use lib.ListN.{length, drop}
 use denote.Ref.{RefT, ptr, now}
 use Rattle.basics.specs.Bools.{pick}
-use Rattle.fields.specs.Fields.{upTo}
+use Rattle.fields.specs.Fields.{feed, upTo}
 
 -- byte 10
 abbrev pub isLineEnd : ℕ → Bool
-isLineEnd b = eqb b 10
+isLineEnd b = eqb b feed
 
 -- the part from the place to before the first byte 10 at or after it, or to the end; nothing from a place beyond the end
 unfoldable pub partFrom : List ℕ → (place : ℕ) → List ℕ

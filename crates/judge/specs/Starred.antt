@@ -1,9 +1,10 @@
--- The starred cases of document 01, 'Plan P and its neighbours', in one statement about what `Judged` allows. Assumes nothing.
+-- Believed: the starred cases of document 01, 'Plan P and its neighbours', in one statement about what `Judged` allows. Assumes nothing.
 use Prim.Native.Nat.{ℕ, _≤_}
 use mathlib.Core.Path.{_≡_}
 use mathlib.Core.List.{List, [], _∷_}
 use lib.IntN.{ℤ, pos, negsuc}
 use lib.ListN.{length, take}
+use Rattle.faults.specs.Limits.{tableRoom, cycleRoom}
 use Rattle.faults.specs.Answer.{got}
 use Rattle.diffs.specs.Diff.{Diff, Sum}
 use Rattle.timetable.specs.Table.{Content, tableOf}
@@ -15,7 +16,7 @@ use Rattle.judge.specs.Texts.{bytesOf, planP, planQ, planTight, planExte
 -- what holds of every result that is allowed for what was asked, with rooms that are long enough
 abbrev pub Always : Asked → (Rooms → Result → Type 0) → Type 0
 Always a P =
-    (b : Rooms) (r : Result) → 24592 ≤ length (b .room) → 1024 ≤ length (b .cycle) → Judged a b r → P b r
+    (b : Rooms) (r : Result) → tableRoom ≤ length (b .room) → cycleRoom ≤ length (b .cycle) → Judged a b r → P b r
 
 -- number and place; both rooms are as they were
 abbrev pub Refuses : (number place : ℕ) → Rooms → Result → Type 0

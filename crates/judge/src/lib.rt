@@ -2,16 +2,21 @@
 ghost use mathlib.Core.Path.{_≡_};
 ghost use Prim.Native.Nat.{_≤_};
 ghost use lib.ListN.{length};
+ghost use Rattle.faults.specs.Limits.{longestText};
 ghost use Rattle.timetable.specs.Times.{asTime, timeOf};
 ghost use Rattle.judge.specs.Plan.{asked};
 ghost use Rattle.judge.specs.Judged.{Judged};
 ghost use Rattle.judge.specs.Values.{rooms, result};
-ghost use Rattle.judge.specs.Stages.{Sized};
+ghost use Rattle.judge.specs.inner.Stages.{Sized};
 use aspif::candidate::Marked;
 use aspif::candidate::candidate;
+use faults::ATOM_PLACES;
+use faults::CYCLE_ROOM;
 use faults::Kind;
+use faults::LONGEST_TEXT;
 use faults::Refusal;
 use faults::Step;
+use faults::TABLE_ROOM;
 use faults::TermNo;
 use stable::Broken;
 use stable::Unfounded;
@@ -21,6 +26,9 @@ use timetable::Time;
 
 pub mod show;
 mod timed;
+
+// The bytes of a text that gets a short tape.
+const SHORT_TEXT: usize = 2000;
 
 // The verdict: accepted, with the timetable's length; or refused, with its kind and place.
 pub enum Verdict {
@@ -43,22 +51,22 @@ fn decided(
     room: &mut [u8],
     cycle: &mut [u32],
 ) -> Verdict
-    requires { ⌜ (length (now text) ≤ length (now tape)) × (length (now tape) ≤ 60000) × Sized (now room) (now cycle) ⌝ }
+    requires { ⌜ (length (now text) ≤ length (now tape)) × (length (now tape) ≤ longestText) × Sized (now room) (now cycle) ⌝ }
     ensures { λ r. ⌜ Judged (asked (now (text .entry)) (now (cand .entry))) (rooms (now (room .entry)) (now (cycle .entry))) (result r (now (room .exit)) (now (cycle .exit))) ⌝ }
 {
     let a = aspif::read(text, tape);
     let Step::Good(n) = a else {
         return Verdict::Refused(a.refusal());
     };
-    let mut atoms = [0u32; 4097];
-    let mut xs = [0u32; 4097];
-    let mut ys = [0u32; 4097];
-    let mut ks = [0i32; 4097];
+    let mut atoms = [0u32; ATOM_PLACES];
+    let mut xs = [0u32; ATOM_PLACES];
+    let mut ys = [0u32; ATOM_PLACES];
+    let mut ks = [0i32; ATOM_PLACES];
     let b = terms::collect(tape, n, &mut atoms, &mut xs, &mut ys, &mut ks);
     let Step::Good(m) = b else {
         return Verdict::Refused(b.refusal());
     };
-    let mut x = [0u8; 4097];
+    let mut x = [0u8; ATOM_PLACES];
     let marked = candidate(cand, &mut x);
     let Marked::Done = marked else {
         return Verdict::Refused(marked.refusal());
@@ -67,7 +75,7 @@ fn decided(
     if let Broken::At(p) = broken {
         return refuse(Kind::Broken, p as usize);
     }
-    let mut ext = [0u8; 4097];
+    let mut ext = [0u8; ATOM_PLACES];
     externals(tape, n, &atoms, m, &mut ext);
     let unfounded = stable::smallest_unfounded(tape, n, &ext, &x);
     if let Unfounded::Atom(k) = unfounded {
@@ -80,21 +88,21 @@ fn decided(
 pub fn judge(text: &[u8], cand: &[u8], room: &mut [u8], cycle: &mut [u32]) -> Verdict
     ensures { λ r. ⌜ Judged (asked (now (text .entry)) (now (cand .entry))) (rooms (now (room .entry)) (now (cycle .entry))) (result r (now (room .exit)) (now (cycle .exit))) ⌝ }
 {
-    if room.len() < 24592 {
-        return refuse(Kind::Room, 24592);
+    if room.len() < TABLE_ROOM {
+        return refuse(Kind::Room, TABLE_ROOM);
     }
-    if cycle.len() < 1024 {
-        return refuse(Kind::Room, 1024);
+    if cycle.len() < CYCLE_ROOM {
+        return refuse(Kind::Room, CYCLE_ROOM);
     }
-    if 60000 < text.len() {
-        return refuse(Kind::Long, 60000);
+    if LONGEST_TEXT < text.len() {
+        return refuse(Kind::Long, LONGEST_TEXT);
     }
     // A short text gets a short tape, which is cleared sooner.
-    if text.len() < 2001 {
-        let mut tape = [0u32; 2000];
+    if text.len() <= SHORT_TEXT {
+        let mut tape = [0u32; SHORT_TEXT];
         return decided(text, cand, &mut tape, room, cycle);
     }
-    let mut tape = [0u32; 60000];
+    let mut tape = [0u32; LONGEST_TEXT];
     decided(text, cand, &mut tape, room, cycle)
 }
 

@@ -5,7 +5,8 @@ ghost use Rattle.faults.specs.Values.{number};
 ghost use Rattle.judge.specs.Shown.{partFrom, inText, Part, IsShown};
 use faults::Kind;
 use faults::Refusal;
-use fields::digits::run_end;
+use fields::FEED;
+use fields::run_end;
 
 // Whether the place of a refusal is in the text.
 fn in_text(kind: Kind) -> bool
@@ -35,7 +36,7 @@ fn part_from(s: &[u8], place: usize) -> &[u8]
     if n <= place {
         return &s[n..n];
     }
-    let end = run_end(s, place, 10, 10);
+    let end = run_end(s, place, FEED, FEED);
     &s[place..end]
 }
 

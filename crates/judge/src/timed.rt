@@ -4,18 +4,20 @@ ghost use mathlib.Core.List.{List};
 ghost use Prim.Native.Nat.{ℕ};
 ghost use lib.ListN.{length};
 ghost use Rattle.basics.specs.inner.Bitmaps.{markedFrom};
+ghost use Rattle.faults.specs.inner.Places.{termPlaces};
 ghost use Rattle.aspif.specs.Statements.{Line};
-ghost use Rattle.diffs.specs.Answer.{diffAt};
-ghost use Rattle.timetable.specs.Given.{timeAt};
+ghost use Rattle.diffs.specs.inner.Answer.{diffAt};
+ghost use Rattle.timetable.specs.inner.Given.{timeAt};
 ghost use Rattle.judge.specs.Judged.{inTime, table, accepting, Timed};
-ghost use Rattle.judge.specs.Values.{asPassed, rooms, result};
-ghost use Rattle.judge.specs.Stages.{stated, Stating, Candidate, Sized, readyAt, Filled, inForce, Gathered};
-ghost use Rattle.judge.specs.Stages.{Writable, Labelled, Settled};
+ghost use Rattle.judge.specs.Values.{rooms, result};
+ghost use Rattle.judge.specs.inner.Stages.{stated, Stating, Candidate, Sized, readyAt, Filled, inForce, Gathered};
+ghost use Rattle.judge.specs.inner.Stages.{Writable, Labelled, Settled, asChecked};
 use crate::Verdict;
 use diffs::Outcome;
 use faults::Kind;
 use faults::Refusal;
 use faults::Step;
+use faults::TERM_PLACES;
 use terms::marks::mark_names;
 
 // The latest time that may be written.
@@ -58,7 +60,7 @@ fn gather(
 // 11 with the smallest marked name whose time is above the latest, or nothing.
 fn late(names: &[u8], times: &[u64]) -> Step
     requires { ⌜ length (now names) ≡ length (now times) ⌝ }
-    ensures { λ r. ⌜ asPassed r ≡ inTime (markedFrom 0 (now (names .entry))) (timeAt (now (times .entry))) ⌝ }
+    ensures { λ r. ⌜ asChecked r ≡ inTime (markedFrom 0 (now (names .entry))) (timeAt (now (times .entry))) ⌝ }
 {
     let mut i = 0;
     while i < names.len() {
@@ -102,11 +104,11 @@ fn settled(
     room: &mut [u8],
     cycle: &mut [u32],
 ) -> Verdict
-    requires { ⌜ Labelled (now labels) (now xs) (now ys) (now ks) × (length (now names) ≡ 1024) ⌝ }
+    requires { ⌜ Labelled (now labels) (now xs) (now ys) (now ks) × (length (now names) ≡ termPlaces) ⌝ }
     requires { ⌜ Candidate (now x) × Sized (now room) (now cycle) ⌝ }
     ensures { λ r. ⌜ Settled (length (now (ks .entry))) (diffAt (now (xs .entry)) (now (ys .entry)) (now (ks .entry))) (now (labels .entry)) (now (names .entry)) (now (x .entry)) (rooms (now (room .entry)) (now (cycle .entry))) (result r (now (room .exit)) (now (cycle .exit))) ⌝ }
 {
-    let mut times = [0u64; 1024];
+    let mut times = [0u64; TERM_PLACES];
     let o = diffs::decide(xs, ys, ks, labels, &mut times, cycle);
     let Outcome::Cycle(k) = o else {
         return written(names, &times, x, room);
@@ -133,7 +135,7 @@ pub fn timed(
     requires { ⌜ Sized (now room) (now cycle) ⌝ }
     ensures { λ r. ⌜ ((ls : List Line) → Stating ls m (now (atoms .entry)) (now (xs .entry)) (now (ys .entry)) (now (ks .entry)) → Timed (readyAt ls (now (x .entry))) (rooms (now (room .entry)) (now (cycle .entry))) (result r (now (room .exit)) (now (cycle .exit)))) ⌝ }
 {
-    let mut names = [0u8; 1024];
+    let mut names = [0u8; TERM_PLACES];
     mark_names(xs, ys, m, &mut names);
     let n = gather(atoms, xs, ys, ks, m, x);
     settled(

@@ -12,7 +12,7 @@ use Rattle.faults.specs.Answer.{Answer, got, refused}
 use Rattle.faults.specs.Values.{number}
 use Rattle.faults.specs.declared.Kind.{Kind}
 use Rattle.faults.specs.declared.Kind.the-variants.{Grammar, Carried, Bounds, Terms, Candidate, Broken}
-use Rattle.timetable.specs.Table.{Record, isTable, shown as shownIn}
+use Rattle.timetable.specs.Table.{Record, isTable, contentOf as shownIn}
 use Rattle.timetable.specs.Times.{timeAmong, timeOf}
 use Rattle.judge.specs.Plan.{Asked, Rooms}
 use Rattle.judge.specs.Judged.{acceptance, refusal, Judged}

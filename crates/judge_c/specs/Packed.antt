@@ -1,4 +1,4 @@
--- An answer as one number: one part above 2 ^ 32, the other below. Assumes nothing.
+-- Believed: an answer as one number: one part above 2 ^ 32, the other below. Assumes nothing.
 use Prim.Native.Nat.{ℕ, _+_, _*_, _%_}
 use mathlib.Core.Path.{_≡_}
 use lib.Dec.{eqb}

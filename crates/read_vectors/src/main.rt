@@ -3,12 +3,15 @@
 ghost use mathlib.Core.Path.{_≡_};
 ghost use Prim.Native.Nat.{_≤_};
 ghost use lib.ListN.{length};
-ghost use Rattle.files.specs.Cases.{caseAt, nextAt};
-ghost use Rattle.aspif.specs.Words.{Within};
+ghost use Rattle.files.specs.inner.Cases.{caseAt, nextAt};
+ghost use Rattle.faults.specs.Limits.{longestText};
+ghost use Rattle.aspif.specs.inner.Kept.{Ahead};
 use aspif::candidate::Marked;
 use aspif::candidate::candidate;
 use aspif::walk::after_at;
 use aspif::walk::word_at;
+use faults::ATOM_PLACES;
+use faults::LONGEST_TEXT;
 use faults::Refusal;
 use faults::Step;
 use files::container::Case;
@@ -45,12 +48,13 @@ fn print_refusal(r: Refusal) {
     io::write_all(STDOUT_FILENO, b"\n");
 }
 
-// Prints the words of a tape from p to before end, and a line end.
+// Prints the line of a tape from p to before end: its kind, its place, its fields, and a line end.
 fn print_line(tape: &[u32], p: usize, end: usize)
     requires { ⌜ p ≤ length (now tape) ⌝ }
 {
-    io::print_decimal(STDOUT_FILENO, word_at(tape, p, 0) as u64);
-    let mut i = p + 1;
+    io::print_decimal(STDOUT_FILENO, word_at(tape, p, 2) as u64);
+    print_next(word_at(tape, p, 0) as u64);
+    let mut i = p + 3;
     while i < end {
         print_next(word_at(tape, i, 0) as u64);
         i += 1;
@@ -60,7 +64,7 @@ fn print_line(tape: &[u32], p: usize, end: usize)
 
 // Prints how many lines a tape has, and each of them.
 fn print_lines(tape: &[u32], n: usize)
-    requires { ⌜ Within (now tape) 0 n ⌝ }
+    requires { ⌜ Ahead (now tape) 0 n ⌝ }
 {
     io::write_all(STDOUT_FILENO, b"read");
     print_next(n as u64);
@@ -77,9 +81,9 @@ fn print_lines(tape: &[u32], n: usize)
 
 // Reads a text, and prints what that gives.
 fn print_text(s: &[u8])
-    requires { ⌜ length (now s) ≤ 60000 ⌝ }
+    requires { ⌜ length (now s) ≤ longestText ⌝ }
 {
-    let mut tape = [0u32; 60000];
+    let mut tape = [0u32; LONGEST_TEXT];
     let a = aspif::read(s, &mut tape);
     match a {
         Step::Good(n) => print_lines(&tape, n),
@@ -103,7 +107,7 @@ fn print_atoms(x: &[u8]) {
 
 // Reads a candidate, and prints what that gives.
 fn print_candidate(s: &[u8]) {
-    let mut x = [0u8; 4097];
+    let mut x = [0u8; ATOM_PLACES];
     let a = candidate(s, &mut x);
     match a {
         Marked::Done => print_atoms(&x),
@@ -113,7 +117,7 @@ fn print_candidate(s: &[u8]) {
 
 // Reads a case, and prints what that gives.
 fn print_case(s: &[u8], holds: Holds)
-    requires { ⌜ length (now s) ≤ 60000 ⌝ }
+    requires { ⌜ length (now s) ≤ longestText ⌝ }
 {
     match holds {
         Holds::Texts => print_text(s),

@@ -8,6 +8,8 @@ use lib.Dec.{eqb, ltb}
 use native.Mathlib.Nat.{zero-add}
 use lib.Seq.{sets-eq}
 use lib.ListN.{length, take, drop, replicate, length-append, length-take}
+use Rattle.faults.specs.Limits.{cycleRoom, tableRoom}
+use Rattle.faults.specs.inner.Places.{termPlaces}
 use Rattle.basics.specs.Bools.{pick}
 use Rattle.faults.specs.Answer.{got}
 use Rattle.timetable.specs.Table.{Record, Content, tableOf, nameCount, atomCount, recordsAt, within}
@@ -18,8 +20,8 @@ use Rattle.judge.specs.Plan.{Asked, Rooms}
 use Rattle.judge.specs.Judged.{refusal, Result, accepting, Judged, cyclic, timed, unfounded, founded, broken, whole, unreadable, ready}
 use Rattle.judge.proofs.Judgements.{verdicts}
 use Rattle.judge.proofs.Tables.{content, content-within, table-got}
-use Rattle.report.specs.Report.{digitsTo, decimal, next, two, nexts, listLine, recordLine, recordLines, accepted, refused, acceptedLines, refusedLines, lines, Reported}
-use Rattle.report.specs.Steps.{Put, Fits, Reportable}
+use Rattle.report.specs.Report.{digitsTo, decimal, spaced, two, spacedAll, listLine, recordLine, recordLines, acceptedWord, refusedWord, acceptedLines, refusedLines, printed, Reported}
+use Rattle.report.specs.inner.Steps.{Put, RoomAt, Reportable}
 
 -- ---- the lines
 
@@ -33,41 +35,41 @@ digits-few (suc k) n = go (ltb n 10) (digits-few k (n / 10))
     go false h = omega (arith, h, length-append (digitsTo k (n / 10)) ((48 + n % 10) ∷ []))
 
 two-few : (n m : ℕ) → length (two n m) ≤ 43
-two-few n m = omega (arith, digits-few 20 n, digits-few 20 m, length-append (next n ++ next m) (10 ∷ []), length-append (next n) (next m))
+two-few n m = omega (arith, digits-few 20 n, digits-few 20 m, length-append (spaced n ++ spaced m) (10 ∷ []), length-append (spaced n) (spaced m))
 
-nexts-few : (vs : List ℕ) → length (nexts vs) ≤ 21 * length vs
-unfolding nexts
+nexts-few : (vs : List ℕ) → length (spacedAll vs) ≤ 21 * length vs
+unfolding spacedAll
 nexts-few [] = omega arith
-nexts-few (v ∷ vs) = omega (arith, digits-few 20 v, nexts-few vs, length-append (next v) (nexts vs))
+nexts-few (v ∷ vs) = omega (arith, digits-few 20 v, nexts-few vs, length-append (spaced v) (spacedAll vs))
 
 list-few : (vs : List ℕ) → length (listLine vs) ≤ 1 + 21 * length vs
 unfolding listLine
 list-few [] = omega arith
-list-few (v ∷ vs) = omega (arith, digits-few 20 v, nexts-few vs, length-append (decimal v ++ nexts vs) (10 ∷ []), length-append (decimal v) (nexts vs))
+list-few (v ∷ vs) = omega (arith, digits-few 20 v, nexts-few vs, length-append (decimal v ++ spacedAll vs) (10 ∷ []), length-append (decimal v) (spacedAll vs))
 
 records-few : (rs : List Record) → length (recordLines rs) ≤ 42 * length rs
 unfolding recordLines
 records-few [] = omega arith
 records-few (r ∷ rs) =
-    omega (arith, digits-few 20 (r .name), digits-few 20 (r .time), records-few rs, length-append (recordLine r) (recordLines rs), length-append (decimal (r .name) ++ next (r .time)) (10 ∷ []), length-append (decimal (r .name)) (next (r .time)))
+    omega (arith, digits-few 20 (r .name), digits-few 20 (r .time), records-few rs, length-append (recordLine r) (recordLines rs), length-append (decimal (r .name) ++ spaced (r .time)) (10 ∷ []), length-append (decimal (r .name)) (spaced (r .time)))
 
 length-three : (xs ys zs : List ℕ) → length (xs ++ ys ++ zs) ≡ length xs + length ys + length zs
 length-three xs ys zs = omega (arith, length-append (xs ++ ys) zs, length-append xs ys)
 
-accepted-few : (room : List ℕ) → nameCount room ≤ 1024 → length (acceptedLines room) ≤ 65536
+accepted-few : (room : List ℕ) → nameCount room ≤ termPlaces → length (acceptedLines room) ≤ 65536
 unfolding acceptedLines
 accepted-few room h =
     let rs = recordsAt room (nameCount room) 16 in
-    omega (arith, h, two-few (nameCount room) (atomCount room), records-few rs, records-length room (nameCount room) 16, length-three accepted (two (nameCount room) (atomCount room)) (recordLines rs))
+    omega (arith, h, two-few (nameCount room) (atomCount room), records-few rs, records-length room (nameCount room) 16, length-three acceptedWord (two (nameCount room) (atomCount room)) (recordLines rs))
 
 second-few : (t : Bool) (p : ℕ) (cycle : List ℕ) → length (pick t (listLine (take p cycle)) []) ≤ 1 + 21 * length cycle
 second-few true p cycle = omega (arith, list-few (take p cycle), length-take p cycle)
 second-few false p cycle = omega arith
 
-refused-few : (k p : ℕ) (cycle : List ℕ) → length cycle ≤ 1024 → length (refusedLines k p cycle) ≤ 65536
+refused-few : (k p : ℕ) (cycle : List ℕ) → length cycle ≤ cycleRoom → length (refusedLines k p cycle) ≤ 65536
 unfolding refusedLines
 refused-few k p cycle h =
-    omega (arith, h, two-few k p, second-few (eqb k 10) p cycle, length-three refused (two k p) (pick (eqb k 10) (listLine (take p cycle)) []))
+    omega (arith, h, two-few k p, second-few (eqb k 10) p cycle, length-three refusedWord (two k p) (pick (eqb k 10) (listLine (take p cycle)) []))
 
 -- ---- the names of a timetable
 
@@ -79,19 +81,19 @@ module _ (c : Content) (h : within c ≡ true) (rest : List ℕ) where
 -- ---- a judged result
 
 -- what is printed of it can be written into 65,536 bytes
-pub judged-fits : (a : Asked) (b : Rooms) (r : Result) (out : List ℕ) → Judged a b r → length (r .rooms .cycle) ≤ 1024 → 65536 ≤ length out
-    → Reportable (r .verdict) (r .rooms .room) × Fits (lines (r .verdict) (r .rooms)) out 0
+pub judged-fits : (a : Asked) (b : Rooms) (r : Result) (out : List ℕ) → Judged a b r → length (r .rooms .cycle) ≤ cycleRoom → 65536 ≤ length out
+    → Reportable (r .verdict) (r .rooms .room) × RoomAt (printed (r .verdict) (r .rooms)) out 0
 judged-fits a b r out j h n = go j
   where
-    of-refusal : (k p : ℕ) → r .verdict ≡ refusal k p → Reportable (r .verdict) (r .rooms .room) × Fits (lines (r .verdict) (r .rooms)) out 0
+    of-refusal : (k p : ℕ) → r .verdict ≡ refusal k p → Reportable (r .verdict) (r .rooms .room) × RoomAt (printed (r .verdict) (r .rooms)) out 0
     of-refusal k p e = rw e (tt, record { fits = omega (arith, n, refused-few k p (r .rooms .cycle) h) })
 
-    of-table : (c : Content) → within c ≡ true → r ≡ accepting b (got (tableOf c)) → Reportable (r .verdict) (r .rooms .room) × Fits (lines (r .verdict) (r .rooms)) out 0
+    of-table : (c : Content) → within c ≡ true → r ≡ accepting b (got (tableOf c)) → Reportable (r .verdict) (r .rooms .room) × RoomAt (printed (r .verdict) (r .rooms)) out 0
     of-table c w e =
         let rest = drop (length (tableOf c)) (b .room) in
         rw e (names-within c w rest, record { fits = omega (arith, n, accepted-few (tableOf c ++ rest) (omega (arith, front-back c w rest .names, names-few c w))) })
 
-    go : Judged a b r → Reportable (r .verdict) (r .rooms .room) × Fits (lines (r .verdict) (r .rooms)) out 0
+    go : Judged a b r → Reportable (r .verdict) (r .rooms .room) × RoomAt (printed (r .verdict) (r .rooms)) out 0
     go (unreadable k p e f) = of-refusal k p (verdicts f)
     go (ready q e (broken p f g)) = of-refusal 8 p (verdicts g)
     go (ready q e (whole f (unfounded c g i))) = of-refusal 9 c (verdicts i)
@@ -99,11 +101,11 @@ judged-fits a b r out j h n = go j
     go (ready q e (whole f (founded g (timed u i ns m l)))) = of-table (content ns u (q .atoms)) (content-within a b q e u i ns m) (rw (table-got a b q e u i ns m) at l)
 
 -- written from the first place on, it stands before what was there
-pub written-whole : {i : Asked} {r : Result} {a b : List ℕ} {n : ℕ} → Judged i (record { room = replicate 24592 0; cycle = replicate 1024 0 }) r
-    → Put (lines (r .verdict) (r .rooms)) a 0 b n → Fits (lines (r .verdict) (r .rooms)) a 0 → Reported i a b n
+pub written-whole : {i : Asked} {r : Result} {a b : List ℕ} {n : ℕ} → Judged i (record { room = replicate tableRoom 0; cycle = replicate cycleRoom 0 }) r
+    → Put (printed (r .verdict) (r .rooms)) a 0 b n → RoomAt (printed (r .verdict) (r .rooms)) a 0 → Reported i a b n
 written-whole {i} {r} {a} {b} {n} j s f = record {
   result = r;
   judged = j;
   length-is = s .ends ∙ zero-add _;
-  bytes = s .is ∙ sets-eq (lines (r .verdict) (r .rooms)) a 0 (f .fits) ∙ rw zero-add;
+  bytes = s .is ∙ sets-eq (printed (r .verdict) (r .rooms)) a 0 (f .fits) ∙ rw zero-add;
 }

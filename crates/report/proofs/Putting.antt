@@ -7,7 +7,7 @@ use lib.ListN.{length, getD, set, take, length-append}
 use lib.Seq.{sets, length-sets, take-suc, take-all, length-take-le}
 use Rattle.io.specs.Counts.{Counts}
 use Rattle.timetable.proofs.Stores.{sets-next}
-use Rattle.report.specs.Steps.{Put, Fits}
+use Rattle.report.specs.inner.Steps.{Put, RoomAt}
 
 module _ {xs a : List ℕ} {o : ℕ} {b : List ℕ} {p : ℕ} (s : Put xs a o b p) where
   -- a step, and one that begins where it ends
@@ -22,17 +22,17 @@ module _ {xs a : List ℕ} {o : ℕ} {b : List ℕ} {p : ℕ} (s : Put xs a o b 
   put-length = ap length (s .is) ∙ length-sets a o xs
 
   -- where both steps fit, the second fits
-  pub fits-second : (ys : List ℕ) → Fits (xs ++ ys) a o → Fits ys b p
+  pub fits-second : (ys : List ℕ) → RoomAt (xs ++ ys) a o → RoomAt ys b p
   fits-second ys h = record { fits = omega (arith, h .fits, put-length, s .ends, length-append xs ys) }
 
 -- what fits from the first place on counts bytes there
-pub put-counts : {xs a b : List ℕ} {n : ℕ} → Fits xs a 0 → Put xs a 0 b n → Counts n b
+pub put-counts : {xs a b : List ℕ} {n : ℕ} → RoomAt xs a 0 → Put xs a 0 b n → Counts n b
 put-counts {xs} {a} {b} {n} h s =
     let l : n ≤ length b = omega (arith, h .fits, s .ends, put-length s) in
     (l, sym (length-take-le n b l))
 
 -- where both steps fit, the first fits
-pub fits-first : {xs a : List ℕ} {o : ℕ} (ys : List ℕ) → Fits (xs ++ ys) a o → Fits xs a o
+pub fits-first : {xs a : List ℕ} {o : ℕ} (ys : List ℕ) → RoomAt (xs ++ ys) a o → RoomAt xs a o
 fits-first {xs} ys h = record { fits = omega (arith, h .fits, length-append xs ys) }
 
 -- ---- one step after another
@@ -48,7 +48,7 @@ rest-all whole a o = record { is = refl; ends = refl; size = refl }
 
 module _ {rest whole a : List ℕ} {o : ℕ} {b : List ℕ} {p : ℕ} (h : Rest rest whole a o b p) where
   -- they fit where all fit
-  pub rest-fits : Fits whole a o → Fits rest b p
+  pub rest-fits : RoomAt whole a o → RoomAt rest b p
   rest-fits f = record { fits = omega (arith, f .fits, h .ends, h .size) }
 
   -- a step leaves the others

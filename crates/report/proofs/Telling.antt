@@ -5,15 +5,14 @@ use mathlib.Core.List.{List, _++_}
 use lib.ListN.{length, drop, length-map}
 use lib.Seq.{take-append-seam}
 use Rattle.faults.specs.Answer.{got}
-use Rattle.timetable.specs.Given.{recordsOf}
-use Rattle.timetable.specs.Table.{tableOf}
+use Rattle.timetable.specs.Table.{recordsOf, tableOf}
 use Rattle.timetable.proofs.Content.{front-back}
 use Rattle.judge.specs.Plan.{Asked, Rooms, Ready, readable}
 use Rattle.judge.specs.Judged.{acceptance, Result, Judged, cyclic, timed, unfounded, founded, broken, whole, unreadable, ready}
 use Rattle.judge.specs.Demand2.{ShowsCycle}
 use Rattle.judge.proofs.Judgements.{verdicts, not-accepted}
 use Rattle.judge.proofs.Tables.{content, content-within, table-got}
-use Rattle.report.specs.Report.{two, listLine, refused, acceptedLines, refusedLines, lines}
+use Rattle.report.specs.Report.{two, listLine, refusedWord, acceptedLines, refusedLines, printed}
 use Rattle.report.specs.Told.{Times, Tells}
 
 -- how many records names have
@@ -22,13 +21,13 @@ unfolding recordsOf
 records-many ns u = length-map ns _
 
 -- the lines of a negative cycle
-cycle-lines : (q : Ready) (b : Rooms) (r : Result) (c : ShowsCycle q b r) → lines (r .verdict) (r .rooms) ≡ refused ++ two 10 (length (c .list)) ++ listLine (c .list)
+cycle-lines : (q : Ready) (b : Rooms) (r : Result) (c : ShowsCycle q b r) → printed (r .verdict) (r .rooms) ≡ refusedWord ++ two 10 (length (c .list)) ++ listLine (c .list)
 unfolding refusedLines
 cycle-lines q b r c = rw (c .is, take-append-seam (c .list) (drop (length (c .list)) (b .cycle)))
 
 module _ (a : Asked) (b : Rooms) (r : Result) where
   -- the lines of an acceptance
-  times : Judged a b r → (n : ℕ) → r .verdict ≡ acceptance n → (q : Ready) × (readable a b ≡ got q) × Times q (lines (r .verdict) (r .rooms))
+  times : Judged a b r → (n : ℕ) → r .verdict ≡ acceptance n → (q : Ready) × (readable a b ≡ got q) × Times q (printed (r .verdict) (r .rooms))
   unfolding acceptedLines
   times (unreadable k p e f) n v = absurd (not-accepted (sym v ∙ verdicts f))
   times (ready q e (broken p f g)) n v = absurd (not-accepted (sym v ∙ verdicts g))

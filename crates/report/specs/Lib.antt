@@ -1,4 +1,4 @@
 -- The definitions that the contracts cite.
 pub mod Report
-pub mod Steps
 pub mod Told
+pub mod inner

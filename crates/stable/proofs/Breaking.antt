@@ -1,61 +1,56 @@
 -- The first broken rule: a rule from the tests of the code, and a walk in which what is left decides as all did. Assumes nothing.
-use Prim.Native.Nat.{ℕ, _+_, _-_, _<_}
+use Prim.Native.Nat.{ℕ, _+_, _-_, _≤_, _<_}
 use mathlib.Core.Bool.{Bool, true, false, not, _&&_}
 use mathlib.Core.List.{List}
-use mathlib.Core.Path.{_≡_, refl, ap, _∙_, sym}
+use mathlib.Core.Option.{some}
+use mathlib.Core.Path.{_≡_, refl, _∙_, sym}
 use native.Mathlib.Omega.{arith}
 use lib.ListN.{length, getD}
 use Rattle.basics.specs.Bools.{pick}
 use Rattle.basics.proofs.Bools.{and-none, and-all}
+use Rattle.faults.specs.inner.Places.{atomPlaces}
+use Rattle.aspif.specs.Statements.{ruleIn}
 use Rattle.aspif.specs.Grammar.{plainHead}
-use Rattle.aspif.specs.Words.{word, listAt, literalsAt, after, saysAt, linesFrom, Taped}
+use Rattle.aspif.specs.inner.Words.{ruleKind, word, listAt, literalsAt, after, saysAt, linesFrom}
+use Rattle.aspif.specs.inner.Kept.{LineOn, Ahead}
+use Rattle.aspif.proofs.Walking.{ahead-next, lines-next}
 use Rattle.stable.specs.Meaning.{Atoms, bodyTrue, brokenRule, broken, unbroken, brokenAt, firstBroken}
-use Rattle.stable.specs.Index.{headAt, bodyAt, RuleAt, Ahead}
-use Rattle.stable.specs.Steps.{holds}
-use Rattle.stable.proofs.Heads.{no-head, one-head, choice-head, plain-head, inside, atom, heads-inside, plain-small, body-holds}
+use Rattle.stable.specs.inner.Index.{ruleAt, RuleOn}
+use Rattle.stable.specs.inner.Steps.{allHold}
+use Rattle.stable.proofs.Heads.{no-head, one-head, choice-head, plain-head, atom, plain-small, body-holds}
+use Rattle.stable.proofs.Lines.{rule-in, none-in, rule-on}
 use Rattle.stable.proofs.Reduct.{holds-self}
-use Rattle.stable.proofs.Lines.{rule-says, other-says, after-above, whole, Next, next-of, one-less, rule-at, ahead-of}
 
 -- ---- a rule
 
-module _ {t : List ℕ} {p : ℕ} (k : RuleAt t p) (X : Atoms) where
-  says : broken X (saysAt t p) ≡ brokenRule X (headAt t p) (bodyAt t p)
-  says = rw (rule-says t p (k .kind))
+module _ {t : List ℕ} {q : ℕ} (k : RuleOn t q) (X : Atoms) where
+  pub choice-whole : (getD t (q + 1) 0 ≡ 0 → ⊥) → false ≡ broken X (some (ruleAt t q))
+  choice-whole n = rw (choice-head t q n)
 
-  at4 : word t (p + 3 + 1) ≡ word t (p + 4)
-  at4 = ap (word t) (omega arith)
+  module _ (c : getD t (q + 1) 0 ≡ 0) {n : ℕ} (w : n ≡ word t (q + 2)) where
+    plain : broken X (some (ruleAt t q)) ≡ brokenRule X (plainHead (listAt t (q + 2))) (ruleAt t q .body)
+    plain = rw (plain-head t q c)
 
-  pub choice-whole : (getD t (p + 2) 0 ≡ 0 → ⊥) → false ≡ broken X (saysAt t p)
-  unfolding word
-  choice-whole n = sym (says ∙ rw (choice-head t p n))
+    -- the code's walk through the body
+    body : {r : Bool} → r ≡ allHold X X (literalsAt t (q + 2 + 1 + n)) → r ≡ bodyTrue X (ruleAt t q .body)
+    body b = body-holds k w X X b ∙ holds-self X (ruleAt t q .body)
 
-  module _ (e : getD t (p + 2) 0 ≡ 0) {n : ℕ} (w : n ≡ word t (p + 3)) where
-    plain : broken X (saysAt t p) ≡ brokenRule X (plainHead (listAt t (p + 3))) (bodyAt t p)
-    unfolding word
-    plain = says ∙ rw (plain-head t p e)
+    pub empty-broken : {r : Bool} → n ≡ 0 → r ≡ allHold X X (literalsAt t (q + 2 + 1 + n)) → r ≡ broken X (some (ruleAt t q))
+    empty-broken z b = body b ∙ sym (plain ∙ rw (no-head t (q + 2) w z))
 
-    pub empty-broken : {r : Bool} → n ≡ 0 → r ≡ holds X X (literalsAt t (p + 4 + n)) → r ≡ broken X (saysAt t p)
-    empty-broken z b = body-holds k w X X b ∙ holds-self X (bodyAt t p) ∙ sym (plain ∙ rw (no-head t (p + 3) (sym w ∙ z)))
-
-    module _ (m : n ≡ 0 → ⊥) where
-      alone : broken X (saysAt t p) ≡ (bodyTrue X (bodyAt t p) && not (X (word t (p + 4))))
-      alone = plain ∙ rw (one-head t (p + 3) (λ z. m (w ∙ z)) (heads-inside k), at4)
+    module _ (m : n ≡ 0 → ⊥) {a : ℕ} (e : a ≡ word t (q + 2 + 1)) where
+      alone : broken X (some (ruleAt t q)) ≡ (bodyTrue X (ruleAt t q .body) && not (X a))
+      alone = plain ∙ rw (one-head t (q + 2) w m e)
 
       -- a plain rule's atom is a place of the bitmap
-      pub head-inside : p + 4 < length t
-      head-inside = omega (arith, inside t (p + 3) w m (heads-inside k))
+      pub head-atom : a < atomPlaces
+      head-atom = atom t (q + 2) w m e (plain-small k c)
 
-      pub head-atom : getD t (p + 4) 0 < 4097
-      unfolding word
-      head-atom = rw at4 at (atom t (p + 3) w m (heads-inside k) (plain-small k e))
+      pub head-whole : X a ≡ true → false ≡ broken X (some (ruleAt t q))
+      head-whole x = sym (alone ∙ rw x (and-none (bodyTrue X (ruleAt t q .body))))
 
-      pub head-whole : X (getD t (p + 4) 0) ≡ true → false ≡ broken X (saysAt t p)
-      unfolding word
-      head-whole x = sym (alone ∙ rw x (and-none (bodyTrue X (bodyAt t p))))
-
-      pub head-broken : {r : Bool} → X (getD t (p + 4) 0) ≡ false → r ≡ holds X X (literalsAt t (p + 4 + n)) → r ≡ broken X (saysAt t p)
-      unfolding word
-      head-broken x b = body-holds k w X X b ∙ holds-self X (bodyAt t p) ∙ sym (alone ∙ rw x (and-all (bodyTrue X (bodyAt t p))))
+      pub head-broken : {r : Bool} → X a ≡ false → r ≡ allHold X X (literalsAt t (q + 2 + 1 + n)) → r ≡ broken X (some (ruleAt t q))
+      head-broken x b = body b ∙ sym (alone ∙ rw x (and-all (bodyTrue X (ruleAt t q .body))))
 
 -- ---- the walk
 
@@ -63,8 +58,8 @@ pub record Passed (X : Atoms) (t : List ℕ) (n p left : ℕ) : Type 0 where
   pub ahead : Ahead t p left
   pub same : firstBroken X (linesFrom t 0 n) ≡ firstBroken X (linesFrom t p left)
 
-pub start : {X : Atoms} {t : List ℕ} {n : ℕ} → Taped t n → Passed X t n 0 n
-start k = record { ahead = ahead-of k; same = refl }
+pub start : {X : Atoms} {t : List ℕ} {n : ℕ} → Ahead t 0 n → Passed X t n 0 n
+start a = record { ahead = a; same = refl }
 
 module _ {X : Atoms} {t : List ℕ} {n p left : ℕ} (k : Passed X t n p left) where
   pub end : left ≡ 0 → unbroken ≡ firstBroken X (linesFrom t 0 n)
@@ -72,30 +67,34 @@ module _ {X : Atoms} {t : List ℕ} {n p left : ℕ} (k : Passed X t n p left) w
   end e = sym (k .same ∙ rw e)
 
   module _ (m : left ≡ 0 → ⊥) where
-    pub next : Next t p (left - 1)
-    next = next-of (k .ahead) m
+    next : LineOn t p × Ahead t (after t p) (left - 1)
+    next = ahead-next t p left (omega (arith, m)) (k .ahead)
 
-    pub here : p < length t
-    here = omega (arith, next .inside, after-above t p)
+    pub here : p + 2 ≤ length t
+    here = omega (arith, next .0 .stand .inside)
 
-    step : firstBroken X (linesFrom t p left) ≡ pick (broken X (saysAt t p)) (brokenAt (word t (p + 1))) (firstBroken X (linesFrom t (after t p) (left - 1)))
-    unfolding firstBroken linesFrom
-    step = ap (λ l. firstBroken X (linesFrom t p l)) (one-less left m)
+    step : firstBroken X (linesFrom t 0 n) ≡ pick (broken X (ruleIn (saysAt t (p + 2)))) (brokenAt (word t p)) (firstBroken X (linesFrom t (after t p) (left - 1)))
+    unfolding firstBroken
+    step = k .same ∙ rw (lines-next t p left (omega (arith, m)))
 
-    pass : {q : ℕ} → broken X (saysAt t p) ≡ false → q ≡ after t p → Passed X t n q (left - 1)
-    pass e f = rw f record { ahead = next .rest; same = k .same ∙ step ∙ rw e }
+    pass : {s : ℕ} → broken X (ruleIn (saysAt t (p + 2))) ≡ false → s ≡ after t p → Passed X t n s (left - 1)
+    pass e f = rw f record { ahead = next .1; same = step ∙ rw e }
 
-    pub pass-other : {q : ℕ} → (getD t p 0 ≡ 1 → ⊥) → q ≡ after t p → Passed X t n q (left - 1)
-    unfolding word
-    pass-other e f = pass (whole X (saysAt t p) (other-says t p e)) f
+    module _ {w : ℕ} (e : w ≡ word t (p + 2)) where
+      pub pass-other : {s : ℕ} → (w ≡ ruleKind → ⊥) → s ≡ after t p → Passed X t n s (left - 1)
+      pass-other o f = pass (rw (none-in t (p + 2) (λ i. o (e ∙ i)))) f
 
-    pub pass-whole : {q : ℕ} {r : Bool} → r ≡ broken X (saysAt t p) → r ≡ false → q ≡ after t p → Passed X t n q (left - 1)
-    pass-whole e v f = pass (sym e ∙ v) f
+      module _ (i : w ≡ ruleKind) where
+        pub rule-here : RuleOn t (p + 2)
+        rule-here = rule-on (next .0) (sym e ∙ i)
 
-    pub broken-here : {r : Bool} → r ≡ broken X (saysAt t p) → r ≡ true → brokenAt (getD t (p + 1) 0) ≡ firstBroken X (linesFrom t 0 n)
-    unfolding word
-    broken-here e v = sym (k .same ∙ step ∙ rw (sym e ∙ v))
+        module _ {r : Bool} (b : r ≡ broken X (some (ruleAt t (p + 2)))) where
+          says : broken X (ruleIn (saysAt t (p + 2))) ≡ r
+          says = rw (rule-in t (p + 2) (sym e ∙ i)) (sym b)
 
-    pub rule-here : getD t p 0 ≡ 1 → RuleAt t p
-    unfolding word
-    rule-here e = rule-at next e
+          pub pass-whole : {s : ℕ} → r ≡ false → s ≡ after t p → Passed X t n s (left - 1)
+          pass-whole v f = pass (says ∙ v) f
+
+          pub broken-here : r ≡ true → brokenAt (getD t p 0) ≡ firstBroken X (linesFrom t 0 n)
+          unfolding word
+          broken-here v = sym (step ∙ rw (says ∙ v))

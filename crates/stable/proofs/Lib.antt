@@ -1,19 +1,15 @@
--- What the functions' proofs cite, then the laws of the meaning and the cases of document 01.
+-- What the functions' proofs cite, then the laws of the meaning.
 pub mod Reduct
-pub mod Lists
+pub mod Lines
 pub mod Literals
 pub mod Marks
 pub mod Chosen
 pub mod Heads
-pub mod Lines
 pub mod Breaking
 pub mod Listing
 pub mod Rounds
 pub mod Filling
 pub mod Seeking
 pub mod Joining
-pub mod Said
 pub mod FirstBroken
 pub mod Stability
-pub mod Witness
-pub mod Cases

@@ -1,132 +1,69 @@
--- The line at a place of the tape: when it is a rule, where the next line stands, and what is known of the lines ahead. Assumes nothing.
-use Prim.Native.Nat.{ℕ, suc, _+_, _-_, _≤_, _<_}
-use mathlib.Core.Bool.{Bool, true, false, true≢false}
-use mathlib.Core.List.{List}
+-- Lines on the tape: when one is a rule, that a rule can be read, and the first of the words of a list. Assumes nothing.
+use Prim.Native.Nat.{ℕ, zero, suc, _+_, _-_, _≤_}
+use mathlib.Core.Bool.{Bool}
+use mathlib.Core.List.{List, _∷_}
+use mathlib.Core.Option.{some, none}
 use mathlib.Core.Path.{_≡_, refl}
 use native.Mathlib.Omega.{arith}
-use borrow.Author.Tests.{eq-eqb, ne-eqb}
+use borrow.Author.Tests.{ne-eqb}
 use lib.Dec.{eqb}
-use lib.ListN.{length}
-use Rattle.aspif.specs.Statements.{Statement, rule, output, numeric, string, compound, element, theory, guarded, comment}
-use Rattle.aspif.specs.Words.{word, behind, after, saysAt, linesFrom, Within, Small, Taped}
-use Rattle.aspif.proofs.Walking.{within-starts}
-use Rattle.stable.specs.Meaning.{Atoms, broken}
-use Rattle.stable.specs.Index.{headAt, bodyAt, RuleAt, Ahead}
+use lib.ListN.{length, getD, length-append}
 use Rattle.basics.proofs.Bools.{picked}
+use Rattle.aspif.specs.Statements.{Head, empty, single, choice, Statement, ruleIn}
+use Rattle.aspif.specs.inner.Words.{ruleKind, outputKind, numberKind, stringKind, compoundKind, elementKind, atomKind, guardedKind, headWords, bodyWords, wordsOf, word, wordsFrom, saysAt, after}
+use Rattle.aspif.specs.inner.Kept.{LineOn}
+use Rattle.aspif.proofs.Walking.{rule-says, rule-inside}
+use Rattle.stable.specs.inner.Index.{ruleAt, RuleOn}
 
--- a statement is a rule
-abbrev pub isRule : Statement → Bool
-isRule (rule h b) = true
-isRule (output bs b) = false
-isRule (numeric u w) = false
-isRule (string u bs) = false
-isRule (compound u t us) = false
-isRule (element v us b) = false
-isRule (theory a p vs) = false
-isRule (guarded a p vs g u) = false
-isRule (comment bs) = false
-
--- only a rule is broken
-pub whole : (X : Atoms) (s : Statement) → isRule s ≡ false → broken X s ≡ false
-whole X (rule h b) e = absurd (true≢false e)
-whole X (output bs b) e = refl
-whole X (numeric u w) e = refl
-whole X (string u bs) e = refl
-whole X (compound u t us) e = refl
-whole X (element v us b) e = refl
-whole X (theory a p vs) e = refl
-whole X (guarded a p vs g u) e = refl
-whole X (comment bs) e = refl
-
-module _ (t : List ℕ) (p : ℕ) where
+module _ (t : List ℕ) (q : ℕ) where
   abbrev is : ℕ → Bool
-  is k = eqb (word t p) k
+  is k = eqb (word t q) k
 
-  -- word 1 begins a rule
-  pub rule-says : word t p ≡ 1 → saysAt t p ≡ rule (headAt t p) (bodyAt t p)
-  unfolding saysAt
-  rule-says e = rw (eq-eqb (word t p) 1 e)
+  -- kind 1 is that of a rule
+  pub rule-in : word t q ≡ ruleKind → ruleIn (saysAt t q) ≡ some (ruleAt t q)
+  rule-in e = rw (rule-says t q e)
 
-  -- and no other word does
-  pub other-says : (word t p ≡ 1 → ⊥) → isRule (saysAt t p) ≡ false
+  -- and no other is
+  pub none-in : (word t q ≡ ruleKind → ⊥) → ruleIn (saysAt t q) ≡ none
   unfolding saysAt
-  other-says n =
-      rw (ne-eqb (word t p) 1 n)
-      (picked no (is 4) _ _ refl (picked no (is 90) _ _ refl (picked no (is 91) _ _ refl (picked no (is 92) _ _ refl
-      (picked no (is 94) _ _ refl (picked no (is 95) _ _ refl (picked no (is 96) _ _ refl refl)))))))
+  none-in n =
+      rw (ne-eqb (word t q) ruleKind n)
+      (picked no (is outputKind) _ _ refl (picked no (is numberKind) _ _ refl (picked no (is stringKind) _ _ refl
+      (picked no (is compoundKind) _ _ refl (picked no (is elementKind) _ _ refl (picked no (is atomKind) _ _ refl
+      (picked no (is guardedKind) _ _ refl refl)))))))
     where
       no : Statement → Type 0
-      no s = isRule s ≡ false
+      no s = ruleIn s ≡ none
 
-  -- the next line stands behind the body of a rule
-  pub rule-after : word t p ≡ 1 → after t p ≡ behind t (behind t (p + 3))
-  unfolding after
-  rule-after e = rw (eq-eqb (word t p) 1 e)
+-- the rule of a line can be read
+pub rule-on : {t : List ℕ} {p : ℕ} → LineOn t p → word t (p + 2) ≡ ruleKind → RuleOn t (p + 2)
+rule-on {t} {p} l e =
+    let s = rw (rule-says t (p + 2) e) at (l .small) in
+    record { head = s .0; body = record { inside = rule-inside l e; small = s .1 } }
 
-  -- and never before the line
-  pub after-above : p < after t p
-  unfolding after
-  after-above =
-      picked far (is 1) _ _ three-two (picked far (is 4) _ _ two-two (picked far (is 90) _ _ four (picked far (is 91) _ _ three
-      (picked far (is 92) _ _ four-on (picked far (is 94) _ _ three-two (picked far (is 95) _ _ four-on (picked far (is 96) _ _ four-two two)))))))
-    where
-      far : ℕ → Type 0
-      far q = p < q
+head-long : (h : Head) → 2 ≤ length (headWords h)
+head-long empty = omega arith
+head-long (single a) = omega arith
+head-long (choice hs) = omega arith
 
-      two : p < behind t (p + 2)
-      two = omega arith
+-- and takes six words or more
+pub rule-long : {t : List ℕ} {p : ℕ} → LineOn t p → word t (p + 2) ≡ ruleKind → p + 6 ≤ after t p
+unfolding wordsFrom
+rule-long {t} {p} l e =
+    let s = l .stand .are in
+    let z : word t (p + 1) ≡ length (wordsOf (saysAt t (p + 2))) = cc in
+    let h = ruleAt t (p + 2) .head in
+    let b = bodyWords (ruleAt t (p + 2) .body) in
+    let y = rw (rule-says t (p + 2) e) at z in
+    omega (arith, y, head-long h, length-append (headWords h) b)
 
-      three : p < behind t (p + 3)
-      three = omega arith
+-- a word as the code reads it
+pub read-word : (t : List ℕ) (p : ℕ) → getD t p 0 ≡ word t p
+unfolding word
+read-word t p = refl
 
-      four-on : p < behind t (p + 4)
-      four-on = omega arith
-
-      four-two : p < behind t (p + 4) + 2
-      four-two = omega arith
-
-      four : p < p + 4
-      four = omega arith
-
-      two-two : p < behind t (behind t (p + 2))
-      two-two = omega arith
-
-      three-two : p < behind t (behind t (p + 3))
-      three-two = omega arith
-
--- what is known of the first of n + 1 lines
-pub record Next (t : List ℕ) (p n : ℕ) : Type 0 where
-  pub inside : after t p ≤ length t
-  pub place : word t (p + 1) < 60000
-  pub small : Small (saysAt t p)
-  pub rest : Ahead t (after t p) n
-
-pub next : {t : List ℕ} {p n : ℕ} → Ahead t p (suc n) → Next t p n
-unfolding Within linesFrom
-next {t} {p} {n} a = record {
-  inside = within-starts t (after t p) n (a .within .1);
-  place = a .small .0 .0;
-  small = a .small .0 .1;
-  rest = record { within = a .within .1; small = a .small .1 };
-}
-
-pub one-less : (n : ℕ) → (n ≡ 0 → ⊥) → n ≡ suc (n - 1)
-one-less n h = omega arith
-
-pub next-of : {t : List ℕ} {p n : ℕ} → Ahead t p n → (n ≡ 0 → ⊥) → Next t p (n - 1)
-next-of {t} {p} {n} a h = next (rw (one-less n h) at a)
-
-pub rule-at : {t : List ℕ} {p n : ℕ} → Next t p n → word t p ≡ 1 → RuleAt t p
-rule-at {t} {p} k e = record {
-  kind = e;
-  inside = rw (rule-after t p e) at (k .inside);
-  head = (rw (rule-says t p e) at (k .small)) .0;
-  body = (rw (rule-says t p e) at (k .small)) .1;
-  place = k .place;
-}
-
-pub ahead-of : {t : List ℕ} {n : ℕ} → Taped t n → Ahead t 0 n
-ahead-of k = record { within = k .within; small = k .small }
-
-pub below-end : {t : List ℕ} {p n : ℕ} → Ahead t p n → p ≤ length t
-below-end {t} {p} {n} a = within-starts t p n (a .within)
+-- the first of n words, and the rest
+pub words-next : (t : List ℕ) (p n : ℕ) → (n ≡ 0 → ⊥) → wordsFrom t p n ≡ word t p ∷ wordsFrom t (p + 1) (n - 1)
+unfolding wordsFrom
+words-next t p zero h = absurd (h refl)
+words-next t p (suc n) h = let d : suc n - 1 ≡ n = omega arith in rw d

@@ -1,70 +1,115 @@
--- A walk that writes the place of each rule: the rules written and those ahead stay all the rules. A rule has five words or more. Assumes nothing.
-use Prim.Native.Nat.{ℕ, suc, _+_, _-_, _*_, _≤_, _<_}
-use mathlib.Core.List.{List, [], _∷_, _++_, append-assoc, append-nil}
-use mathlib.Core.Path.{_≡_, refl, ap, _∙_, sym}
-use native.Mathlib.Numerals.{add-one}
+-- A walk that writes the place of each rule: a rule of the lines is written or is ahead. A rule has six words or more. Assumes nothing.
+use Prim.Native.Nat.{ℕ, _+_, _-_, _*_, _≤_, _<_}
+use mathlib.Core.List.{List}
+use mathlib.Core.Logic.{_⊎_, inl, inr, ⊎-elim}
+use mathlib.Core.Option.{some}
+use mathlib.Core.Path.{_≡_, ap, _∙_, sym}
 use native.Mathlib.Omega.{arith}
-use borrow.Author.Tests.{eq-eqb, ne-eqb}
-use lib.ListN.{length, getD, take, set, length-set}
-use lib.Seq.{take-suc-set}
-use Rattle.aspif.specs.Words.{word, after}
-use Rattle.stable.specs.Index.{Ahead, rulePlaces, Indexed}
-use Rattle.stable.proofs.Lines.{rule-after, after-above, Next, next-of, one-less, below-end}
+use borrow.Author.Count.{below-more}
+use lib.ListN.{length, set, length-set}
+use lib.Seq.{getD-set-same, getD-set-other}
+use Rattle.faults.specs.Limits.{longestText}
+use Rattle.aspif.specs.Statements.{Rule, ruleIn}
+use Rattle.aspif.specs.inner.Words.{ruleKind, word, after, saysAt, linesFrom, linesOf}
+use Rattle.aspif.specs.inner.Kept.{LineOn, Ahead}
+use Rattle.aspif.proofs.Walking.{ahead-starts, ahead-next, lines-next, after-inside}
+use Rattle.stable.specs.Meaning.{HasRule}
+use Rattle.stable.specs.inner.Index.{ruleAt, RuleOn, indexPlaces, InIndex, Indexed}
+use Rattle.stable.proofs.Lines.{rule-in, none-in, rule-on, rule-long}
 
-module _ (t : List ℕ) (p n : ℕ) where
-  -- the first line is a rule, or is not
-  pub places-rule : word t p ≡ 1 → rulePlaces t p (suc n) ≡ p ∷ rulePlaces t (after t p) n
-  unfolding rulePlaces
-  places-rule e = rw (eq-eqb (word t p) 1 e)
-
-  pub places-other : (word t p ≡ 1 → ⊥) → rulePlaces t p (suc n) ≡ rulePlaces t (after t p) n
-  unfolding rulePlaces
-  places-other e = rw (ne-eqb (word t p) 1 e)
+-- a rule of the lines stands at q
+pub record Stands (t : List ℕ) (n q : ℕ) : Type 0 where
+  pub on : RuleOn t q
+  pub said : HasRule (linesOf t n) (ruleAt t q)
 
 pub record Listing (t : List ℕ) (n : ℕ) (index : List ℕ) (m p left : ℕ) : Type 0 where
   pub ahead : Ahead t p left
-  pub short : length t ≤ 60000
-  pub few : 5 * m ≤ p
-  pub long : length index ≡ 12000
-  pub same : rulePlaces t 0 n ≡ take m index ++ rulePlaces t p left
+  pub short : length t ≤ longestText
+  pub few : 6 * m ≤ p
+  pub long : length index ≡ indexPlaces
+  pub each : (i : ℕ) → i < m → Stands t n (word index i)
+  pub said : (r : Rule) → HasRule (linesFrom t p left) r → HasRule (linesOf t n) r
+  pub whole : (r : Rule) → HasRule (linesOf t n) r → InIndex t index m r ⊎ HasRule (linesFrom t p left) r
 
-pub start : {t : List ℕ} {n : ℕ} {index : List ℕ} → Ahead t 0 n → length t ≤ 60000 → length index ≡ 12000 → Listing t n index 0 0 n
-start a s l = record { ahead = a; short = s; few = omega arith; long = l; same = refl }
+pub start : {t : List ℕ} {n : ℕ} {index : List ℕ} → Ahead t 0 n → length t ≤ longestText → length index ≡ indexPlaces → Listing t n index 0 0 n
+start a s l = record {
+  ahead = a;
+  short = s;
+  few = omega arith;
+  long = l;
+  each = λ i h. absurd (let z : ⊥ = omega arith in z);
+  said = λ r h. h;
+  whole = λ r h. inr h;
+}
 
 module _ {t : List ℕ} {n : ℕ} {index : List ℕ} {m p left : ℕ} (k : Listing t n index m p left) where
   pub end : left ≡ 0 → Indexed t n index m
-  unfolding rulePlaces
-  end e = record { places = sym (k .same ∙ rw e (append-nil (take m index))); long = omega (arith, k .few, k .long, k .short, below-end (k .ahead)) }
+  unfolding linesFrom
+  end e = record {
+    readable = record { long = omega (arith, k .few, k .long, k .short, ahead-starts t p left (k .ahead)); each = λ i h. k .each i h .on };
+    sound = λ i h. k .each i h .said;
+    whole = λ r h. ⊎-elim (λ i. i) (λ a. absurd (rw e at a)) (k .whole r h);
+  }
 
   module _ (l : left ≡ 0 → ⊥) where
-    pub next : Next t p (left - 1)
-    next = next-of (k .ahead) l
+    next : LineOn t p × Ahead t (after t p) (left - 1)
+    next = ahead-next t p left (omega (arith, l)) (k .ahead)
 
-    pub here : p < length t
-    here = omega (arith, next .inside, after-above t p)
+    pub here : p + 2 ≤ length t
+    here = omega (arith, next .0 .stand .inside)
 
-    pub pass : {g : List ℕ} {s q : ℕ} → (getD t p 0 ≡ 1 → ⊥) → g ≡ index → s ≡ m → q ≡ after t p → Listing t n g s q (left - 1)
-    unfolding word
-    pass e u v f = rw (u, v, f) record {
-      ahead = next .rest;
-      short = k .short;
-      few = omega (arith, k .few, after-above t p);
-      long = k .long;
-      same = k .same ∙ ap (λ ps. take m index ++ ps) (ap (rulePlaces t p) (one-less left l) ∙ places-other t p (left - 1) e);
-    }
+    -- a rule ahead is the first line, or ahead of it
+    first-or : (r : Rule) → HasRule (linesFrom t p left) r → (ruleIn (saysAt t (p + 2)) ≡ some r) ⊎ HasRule (linesFrom t (after t p) (left - 1)) r
+    first-or r h = rw (lines-next t p left (omega (arith, l))) at h
 
-    pub room : getD t p 0 ≡ 1 → m < 12000
-    unfolding word
-    room e = omega (arith, k .few, k .short, next .inside, rule-after t p e)
+    or-first : (r : Rule) → (ruleIn (saysAt t (p + 2)) ≡ some r) ⊎ HasRule (linesFrom t (after t p) (left - 1)) r → HasRule (linesFrom t p left) r
+    or-first r h = rw (lines-next t p left (omega (arith, l))) h
 
-    pub put : {g : List ℕ} {s q : ℕ} → getD t p 0 ≡ 1 → g ≡ set index m p → s ≡ m + 1 → q ≡ after t p → Listing t n g s q (left - 1)
-    unfolding word
-    put e u v f = rw (u, v, f) record {
-      ahead = next .rest;
-      short = k .short;
-      few = omega (arith, k .few, rule-after t p e);
-      long = length-set index m p ∙ k .long;
-      same = k .same ∙ ap (λ ps. take m index ++ ps) (ap (rulePlaces t p) (one-less left l) ∙ places-rule t p (left - 1) e)
-          ∙ sym (append-assoc (take m index) (p ∷ []) (rulePlaces t (after t p) (left - 1)))
-          ∙ ap (λ ps. ps ++ rulePlaces t (after t p) (left - 1)) (sym (ap (λ j. take j (set index m p)) (add-one m) ∙ take-suc-set index m p (omega (arith, room e, k .long))));
-    }
+    module _ {w : ℕ} (e : w ≡ word t (p + 2)) where
+      pub pass : {g : List ℕ} {s u : ℕ} → (w ≡ ruleKind → ⊥) → g ≡ index → s ≡ m → u ≡ after t p → Listing t n g s u (left - 1)
+      pass o x y z = rw (x, y, z) record {
+        ahead = next .1;
+        short = k .short;
+        few = omega (arith, k .few);
+        long = k .long;
+        each = k .each;
+        said = λ r h. k .said r (or-first r (inr h));
+        whole = λ r h. ⊎-elim inl (λ a. ⊎-elim (λ f. absurd (other r f)) inr (first-or r a)) (k .whole r h);
+      }
+        where
+          other : (r : Rule) → ruleIn (saysAt t (p + 2)) ≡ some r → ⊥
+          other r f = let v = none-in t (p + 2) (λ i. o (e ∙ i)) in let c : _≡_ {A = ℕ} 0 1 = cc in omega arith
+
+      module _ (i : w ≡ ruleKind) where
+        pub room : m < indexPlaces
+        room = omega (arith, k .few, k .short, rule-long (next .0) (sym e ∙ i), after-inside (next .0))
+
+        same : word (set index m (p + 2)) m ≡ p + 2
+        unfolding word
+        same = getD-set-same index m (p + 2) 0 (omega (arith, room, k .long))
+
+        others : (j : ℕ) → j < m → word (set index m (p + 2)) j ≡ word index j
+        unfolding word
+        others j h = getD-set-other index m j (p + 2) 0 (omega arith)
+
+        -- what was written stays, and the rule at hand is written
+        old : {r : Rule} → InIndex t index m r → InIndex t (set index m (p + 2)) (m + 1) r
+        old j = record { i = j .i; below = omega (arith, j .below); is = ap (ruleAt t) (others (j .i) (j .below)) ∙ j .is }
+
+        new : {r : Rule} → ruleIn (saysAt t (p + 2)) ≡ some r → InIndex t (set index m (p + 2)) (m + 1) r
+        new {r} f =
+            let v = rule-in t (p + 2) (sym e ∙ i) in
+            let c : ruleAt t (p + 2) ≡ r = cc in
+            record { i = m; below = omega arith; is = ap (ruleAt t) same ∙ c }
+
+        pub put : {g : List ℕ} {s u : ℕ} → g ≡ set index m (p + 2) → s ≡ m + 1 → u ≡ after t p → Listing t n g s u (left - 1)
+        put x y z = rw (x, y, z) record {
+          ahead = next .1;
+          short = k .short;
+          few = omega (arith, k .few, rule-long (next .0) (sym e ∙ i));
+          long = length-set index m (p + 2) ∙ k .long;
+          each = below-more _ m (λ j h. rw (others j h) (k .each j h))
+              (rw same record { on = rule-on (next .0) (sym e ∙ i); said = k .said _ (or-first _ (inl (rule-in t (p + 2) (sym e ∙ i)))) });
+          said = λ r h. k .said r (or-first r (inr h));
+          whole = λ r h. ⊎-elim (λ j. inl (old j)) (λ a. ⊎-elim (λ f. inl (new f)) inr (first-or r a)) (k .whole r h);
+        }

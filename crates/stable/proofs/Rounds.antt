@@ -7,34 +7,39 @@ use mathlib.Core.Path.{_≡_, ap, _∙_, sym}
 use native.Mathlib.Omega.{arith}
 use borrow.Author.Count.{below-more}
 use lib.ListN.{length, getD}
-use Rattle.aspif.specs.Words.{word}
-use Rattle.stable.specs.Meaning.{Atoms, reductHead, kept, positives, bodyTrue}
 use Rattle.basics.specs.inner.Bitmaps.{isMarked}
 use Rattle.basics.proofs.Bools.{or-left, or-right, or-cases, and-cases, and-both}
-use Rattle.stable.specs.Index.{headAt, bodyAt, RuleAt}
-use Rattle.stable.specs.Steps.{holds, marked, Grown, Added, fires, ruleFires, ClosedBy, Readable, Round, Both, LeastBy}
+use Rattle.faults.specs.inner.Places.{atomPlaces}
+use Rattle.aspif.specs.Statements.{Rule}
+use Rattle.aspif.specs.inner.Words.{word}
+use Rattle.stable.specs.Meaning.{Atoms, reductHead, kept, reduced, bodyTrue, Obeyed}
+use Rattle.stable.specs.inner.Index.{ruleAt, RuleOn, Readable}
+use Rattle.stable.specs.inner.Steps.{bodyHolds, markedCount, GrownMarks, AddedMarks, fires, ClosedBy, Round, Both, LeastBy}
 use Rattle.stable.proofs.Marks.{grown-refl, grown-trans, marked-le}
 use Rattle.stable.proofs.Reduct.{holds-reduct, holds-mono}
 
--- what fires by atoms of a model is in it
-fires-in : (X ext S : Atoms) (t index : List ℕ) (m : ℕ) (F : Atoms) → ClosedBy X ext t index m S → ((a : ℕ) → F a ≡ true → S a ≡ true)
-    → (i : ℕ) → i < m → (a : ℕ) → ruleFires X F t index i a ≡ true → S a ≡ true
-fires-in X ext S t index m F cl mono i h a e =
-    let b = bodyAt t (word index i) in
-    let p = and-cases (holds X F b) (reductHead X (headAt t (word index i)) a) e in
-    let q = and-cases (kept X b) (bodyTrue S (positives b)) (sym (holds-reduct X S b) ∙ holds-mono X F S mono b (p .0)) in
-    cl .rules i h (q .0) (q .1) a (p .1)
+-- what fires by atoms of S is in S, where S obeys the rule
+fires-in : (X F S : Atoms) (r : Rule) → Obeyed X S r → ((a : ℕ) → F a ≡ true → S a ≡ true) → (a : ℕ) → fires X F r a ≡ true → S a ≡ true
+fires-in X F S r o mono a e =
+    let p = and-cases (bodyHolds X F (r .body)) (reductHead X (r .head) a) e in
+    let q = and-cases (kept X (r .body)) (bodyTrue S (reduced (r .body))) (sym (holds-reduct X S (r .body)) ∙ holds-mono X F S mono (r .body) (p .0)) in
+    o (q .0) (q .1) a (p .1)
+
+-- and it obeys a rule of which what fires is in it
+obeys : (X S : Atoms) (r : Rule) → ((a : ℕ) → fires X S r a ≡ true → S a ≡ true) → Obeyed X S r
+obeys X S r f kp bo a hd =
+    f a (and-both (bodyHolds X S (r .body)) (reductHead X (r .head) a) (holds-reduct X S (r .body) ∙ and-both (kept X (r .body)) _ kp bo) hd)
 
 -- after i rules of a round, with k new marks
 pub record Turn (X : Atoms) (t index : List ℕ) (m : ℕ) (f g : List ℕ) (k i : ℕ) : Type 0 where
   pub below : i ≤ m
-  pub long : length g ≡ 4097
-  pub grown : Grown f g k
+  pub long : length g ≡ atomPlaces
+  pub grown : GrownMarks f g k
   pub grows : (a : ℕ) → isMarked f a ≡ true → isMarked g a ≡ true
   pub sound : (ext S : Atoms) → ClosedBy X ext t index m S → ((a : ℕ) → isMarked f a ≡ true → S a ≡ true) → (a : ℕ) → isMarked g a ≡ true → S a ≡ true
-  pub done : k ≡ 0 → (j : ℕ) → j < i → (a : ℕ) → ruleFires X (isMarked f) t index j a ≡ true → isMarked f a ≡ true
+  pub done : k ≡ 0 → (j : ℕ) → j < i → (a : ℕ) → fires X (isMarked f) (ruleAt t (word index j)) a ≡ true → isMarked f a ≡ true
 
-pub start : {X : Atoms} {t index : List ℕ} {m : ℕ} {f : List ℕ} → length f ≡ 4097 → Turn X t index m f f 0 0
+pub start : {X : Atoms} {t index : List ℕ} {m : ℕ} {f : List ℕ} → length f ≡ atomPlaces → Turn X t index m f f 0 0
 start l = record {
   below = omega arith;
   long = l;
@@ -46,24 +51,24 @@ start l = record {
 
 module _ {X : Atoms} {t index : List ℕ} {m : ℕ} {f g : List ℕ} {k i : ℕ} (p : Turn X t index m f g k i) where
   -- the rule at hand, from the code's read of the index
-  pub rule-here : Readable t index m → i < m → RuleAt t (getD index i 0)
+  pub rule-here : Readable t index m → i < m → RuleOn t (getD index i 0)
   unfolding word
   rule-here r h = r .each i h
 
-  module _ {h : List ℕ} {r : ℕ} (d : Added (fires X (isMarked g) (headAt t (getD index i 0)) (bodyAt t (getD index i 0))) g h r) (l : length h ≡ length g) where
-    pub few : k + r ≤ 4097
+  module _ {h : List ℕ} {r : ℕ} (d : AddedMarks (fires X (isMarked g) (ruleAt t (getD index i 0))) g h r) (l : length h ≡ length g) where
+    pub few : k + r ≤ atomPlaces
     few = omega (arith, p .grown .counted, d .grown .counted, marked-le h, p .long)
 
-    now-in : (a : ℕ) → isMarked h a ≡ (isMarked g a || ruleFires X (isMarked g) t index i a)
+    now-in : (a : ℕ) → isMarked h a ≡ (isMarked g a || fires X (isMarked g) (ruleAt t (word index i)) a)
     unfolding word
     now-in a = d .now-in a
 
     sound : i < m → (ext S : Atoms) → ClosedBy X ext t index m S → ((a : ℕ) → isMarked f a ≡ true → S a ≡ true) → (a : ℕ) → isMarked h a ≡ true → S a ≡ true
     sound b ext S cl mono a e =
-        ⊎-elim (p .sound ext S cl mono a) (fires-in X ext S t index m (isMarked g) cl (p .sound ext S cl mono) i b a)
-        (or-cases (isMarked g a) (ruleFires X (isMarked g) t index i a) (sym (now-in a) ∙ e))
+        ⊎-elim (p .sound ext S cl mono a) (fires-in X (isMarked g) S (ruleAt t (word index i)) (cl .rules i b) (p .sound ext S cl mono) a)
+        (or-cases (isMarked g a) (fires X (isMarked g) (ruleAt t (word index i)) a) (sym (now-in a) ∙ e))
 
-    done : k + r ≡ 0 → (a : ℕ) → ruleFires X (isMarked f) t index i a ≡ true → isMarked f a ≡ true
+    done : k + r ≡ 0 → (a : ℕ) → fires X (isMarked f) (ruleAt t (word index i)) a ≡ true → isMarked f a ≡ true
     done e a y =
         let s : g ≡ f = p .grown .same (omega arith) in
         let u : h ≡ f = d .grown .same (omega arith) ∙ s in
@@ -84,12 +89,12 @@ module _ {X : Atoms} {t index : List ℕ} {m : ℕ} {f g : List ℕ} {k i : ℕ}
 
 -- between rounds, the last of which had k new marks
 pub record Between (X ext : Atoms) (t index : List ℕ) (m : ℕ) (f : List ℕ) (k : ℕ) : Type 0 where
-  pub long : length f ≡ 4097
+  pub long : length f ≡ atomPlaces
   pub sound : (S : Atoms) → ClosedBy X ext t index m S → (a : ℕ) → isMarked f a ≡ true → S a ≡ true
   pub facts : (a : ℕ) → ext a ≡ true → X a ≡ true → isMarked f a ≡ true
   pub done : k ≡ 0 → ClosedBy X ext t index m (isMarked f)
 
-pub first : {x ext t index : List ℕ} {m : ℕ} {f : List ℕ} → length f ≡ 4097 → Both ext x f → Between (isMarked x) (isMarked ext) t index m f 1
+pub first : {x ext t index : List ℕ} {m : ℕ} {f : List ℕ} → length f ≡ atomPlaces → Both ext x f → Between (isMarked x) (isMarked ext) t index m f 1
 first {x} {ext} l b = record {
   long = l;
   sound = λ S cl a e. let p = and-cases (isMarked ext a) (isMarked x a) (sym (b .now-in a) ∙ e) in cl .facts a (p .0) (p .1);
@@ -98,23 +103,16 @@ first {x} {ext} l b = record {
 }
 
 module _ {X ext : Atoms} {t index : List ℕ} {m : ℕ} {f : List ℕ} {k : ℕ} (p : Between X ext t index m f k) where
-  closed : ((i : ℕ) → i < m → (a : ℕ) → ruleFires X (isMarked f) t index i a ≡ true → isMarked f a ≡ true) → ClosedBy X ext t index m (isMarked f)
-  closed d = record {
-    facts = p .facts;
-    rules = λ i h kp bo a hd. d i h a (and-both (holds X (isMarked f) (bodyAt t (word index i))) (reductHead X (headAt t (word index i)) a)
-        (holds-reduct X (isMarked f) (bodyAt t (word index i)) ∙ and-both (kept X (bodyAt t (word index i))) _ kp bo) hd);
-  }
-
   pub again : {g : List ℕ} {r : ℕ} → length g ≡ length f → Round X t index m f g r → Between X ext t index m g r
   again {g} l r = record {
     long = l ∙ p .long;
     sound = λ S cl. r .sound ext S cl (p .sound S cl);
     facts = λ a e h. r .grows a (p .facts a e h);
-    done = λ e. rw (r .grown .same e) (closed (r .done e));
+    done = λ e. rw (r .grown .same e) record { facts = p .facts; rules = λ i h. obeys X (isMarked f) (ruleAt t (word index i)) (r .done e i h) };
   }
 
   -- the measure: atoms not found, and one turn more
-  pub less : {g : List ℕ} {r : ℕ} → (k ≡ 0 → ⊥) → length g ≡ length f → Round X t index m f g r → (4097 - marked g) + min r 1 < (4097 - marked f) + min k 1
+  pub less : {g : List ℕ} {r : ℕ} → (k ≡ 0 → ⊥) → length g ≡ length f → Round X t index m f g r → (atomPlaces - markedCount g) + min r 1 < (atomPlaces - markedCount f) + min k 1
   less {g} n l r = omega (arith, n, r .grown .counted, marked-le g, p .long)
 
   pub end-least : k ≡ 0 → LeastBy X ext t index m f

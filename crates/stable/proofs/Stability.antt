@@ -1,4 +1,4 @@
--- X is stable exactly if no rule is broken and no atom unfounded; the least model; what external atoms and answers are. Assumes nothing.
+-- X is stable exactly if no rule is broken and no atom unfounded; the least model; the answer is unique. Assumes nothing.
 use Prim.Native.Nat.{ℕ, _<_}
 use mathlib.Core.Bool.{Bool, true, false, not, _&&_, true≢false}
 use mathlib.Core.List.{List}
@@ -7,15 +7,15 @@ use mathlib.Core.Path.{_≡_, refl, ap, sym, _∙_}
 use native.Mathlib.Decide.{decLt}
 use native.Mathlib.Omega.{arith}
 use borrow.Author.Tests.{eqb-true}
-use Rattle.aspif.specs.Statements.{Literal, Head, empty, single, choice, rule, Line}
 use Rattle.basics.specs.Lists.{among}
 use Rattle.basics.proofs.Bools.{and-cases, and-both}
-use Rattle.stable.specs.Meaning.{Atoms, bodyTrue, brokenRule, Unbroken, unbroken, firstBroken, kept, reductHead, Closed, Least, Unfounded, Founded, SmallestUnfounded, Founding, founded, unfoundedAt, FoundedBy, Stable}
-use Rattle.stable.proofs.Reduct.{holds-self, holds-reduct, positives-mono}
+use Rattle.aspif.specs.Statements.{Head, empty, single, choice, Body, Line}
+use Rattle.stable.specs.Meaning.{Atoms, bodyTrue, brokenRule, Unbroken, unbroken, firstBroken, kept, reductHead, Closed, InLeast, Founded, SmallestUnfounded, Founding, founded, unfoundedAt, FoundedBy, Stable}
+use Rattle.stable.proofs.Reduct.{holds-self, holds-reduct, reduced-mono}
 use Rattle.stable.proofs.FirstBroken.{unbroken-iff}
 
 -- a whole rule with a true body has its heads of the reduct in X
-head-in : (X : Atoms) (h : Head) (b : List Literal) → brokenRule X h b ≡ false → bodyTrue X b ≡ true → (a : ℕ) → reductHead X h a ≡ true → X a ≡ true
+head-in : (X : Atoms) (h : Head) (b : Body) → brokenRule X h b ≡ false → bodyTrue X b ≡ true → (a : ℕ) → reductHead X h a ≡ true → X a ≡ true
 head-in X empty b w t a e = absurd (true≢false (sym e))
 head-in X (single c) b w t a e = ap X (eqb-true a c e) ∙ go (bodyTrue X b) (X c) t w
   where
@@ -27,14 +27,14 @@ head-in X (choice hs) b w t a e = and-cases (among a hs) (X a) e .1
 
 module _ (X ext : Atoms) (ls : List Line) where
   -- X is a model of its own reduct, if no rule is broken
-  pub self-closed : Unbroken X ls → Closed X ext ls X
+  self-closed : Unbroken X ls → Closed X ext ls X
   self-closed u = record {
     facts = λ a e x. x;
-    rules = λ h b s kp bo. head-in X h b (u (rule h b) s) (sym (holds-self X b) ∙ holds-reduct X X b ∙ and-both (kept X b) _ kp bo);
+    rules = λ r s kp bo. head-in X (r .head) (r .body) (u r s) (sym (holds-self X (r .body)) ∙ holds-reduct X X (r .body) ∙ and-both (kept X (r .body)) _ kp bo);
   }
 
   -- membership in every model is decided by a contradiction
-  not-not : (a : ℕ) → ((Least X ext ls a → ⊥) → ⊥) → Least X ext ls a
+  not-not : (a : ℕ) → ((InLeast X ext ls a → ⊥) → ⊥) → InLeast X ext ls a
   not-not a n S c = go (S a) refl
     where
       go : (t : Bool) → S a ≡ t → S a ≡ true
@@ -59,26 +59,22 @@ module _ (X ext : Atoms) (ls : List Line) where
   )
 
   -- the least model of the reduct is a model
-  pub least-model : (M : Atoms) → ((a : ℕ) → (M a ≡ true) ↔ Least X ext ls a) → Closed X ext ls M
+  pub least-model : (M : Atoms) → ((a : ℕ) → (M a ≡ true) ↔ InLeast X ext ls a) → Closed X ext ls M
   least-model M m = record {
     facts = λ a e x. m a .1 (λ S c. c .facts a e x);
-    rules = λ h b s kp bo a hd. m a .1 (λ S c. c .rules h b s kp (positives-mono M S (λ d e. m d .0 e S c) b bo) a hd);
+    rules = λ r s kp bo a hd. m a .1 (λ S c. c .rules r s kp (reduced-mono X M S (λ d e. m d .0 e S c) (r .body) kp bo) a hd);
   }
 
   -- and below every model
-  pub least-below : (M : Atoms) → ((a : ℕ) → (M a ≡ true) ↔ Least X ext ls a) → (S : Atoms) → Closed X ext ls S → (a : ℕ) → M a ≡ true → S a ≡ true
+  pub least-below : (M : Atoms) → ((a : ℕ) → (M a ≡ true) ↔ InLeast X ext ls a) → (S : Atoms) → Closed X ext ls S → (a : ℕ) → M a ≡ true → S a ≡ true
   least-below M m S c a e = m a .0 e S c
 
   -- a model that is below every model is the least
-  pub model-least : (M : Atoms) → Closed X ext ls M → ((S : Atoms) → Closed X ext ls S → (a : ℕ) → M a ≡ true → S a ≡ true) → (a : ℕ) → (M a ≡ true) ↔ Least X ext ls a
+  pub model-least : (M : Atoms) → Closed X ext ls M → ((S : Atoms) → Closed X ext ls S → (a : ℕ) → M a ≡ true → S a ≡ true) → (a : ℕ) → (M a ≡ true) ↔ InLeast X ext ls a
   model-least M c f a = ((λ e S d. f S d a e), (λ l. l M c))
 
-  -- an external atom in X is never unfounded
-  pub external-founded : (a : ℕ) → ext a ≡ true → Unfounded X ext ls a → ⊥
-  external-founded a e u = u .outside (λ S c. c .facts a e (u .holds))
-
   -- the smallest unfounded atom is unique
-  pub smallest-unique : (a b : ℕ) → SmallestUnfounded X ext ls a → SmallestUnfounded X ext ls b → a ≡ b
+  smallest-unique : (a b : ℕ) → SmallestUnfounded X ext ls a → SmallestUnfounded X ext ls b → a ≡ b
   smallest-unique a b s t = go (decLt a b) (decLt b a)
     where
       go : Dec (a < b) → Dec (b < a) → a ≡ b

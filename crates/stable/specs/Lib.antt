@@ -1,5 +1,3 @@
 -- The definitions that the contracts cite.
 pub mod Meaning
-pub mod Values
-pub mod Index
-pub mod Steps
+pub mod inner

@@ -1,20 +1,31 @@
 // Stable candidates: the first broken rule, the least model of the reduct, the smallest unfounded atom.
 ghost use mathlib.Core.Path.{_≡_};
 ghost use mathlib.Core.Bool.{_&&_};
+ghost use mathlib.Core.Option.{some};
 ghost use Prim.Native.Nat.{ℕ, _+_, _≤_, _<_};
 ghost use lib.Dec.{eqb};
 ghost use lib.ListN.{length};
 ghost use Rattle.basics.specs.Lists.{among};
 ghost use Rattle.basics.specs.inner.Bitmaps.{isMarked};
+ghost use Rattle.faults.specs.Limits.{longestText};
+ghost use Rattle.faults.specs.inner.Places.{atomPlaces};
+ghost use Rattle.aspif.specs.Statements.{choice, inHead};
 ghost use Rattle.aspif.specs.Grammar.{plainHead};
-ghost use Rattle.aspif.specs.Words.{word, behind, listAt, literalsAt, saysAt, linesOf, AllBelow, SmallHead, Taped};
-ghost use Rattle.terms.specs.Says.{inHead};
+ghost use Rattle.aspif.specs.inner.Words.{word, behind, listAt, literalsAt, linesOf};
+ghost use Rattle.aspif.specs.inner.Kept.{SmallHead, Ahead};
 ghost use Rattle.stable.specs.Meaning.{firstBroken, broken, FoundedBy};
-ghost use Rattle.stable.specs.Values.{asBroken, asUnfounded};
-ghost use Rattle.stable.specs.Index.{headAt, bodyAt, LiteralsAt, RuleAt, Ahead, Indexed};
-ghost use Rattle.stable.specs.Steps.{holds, fires, Marked, Added, Readable, Round, Both, LeastBy, Sought};
+ghost use Rattle.stable.specs.inner.Values.{asBroken, asUnfounded};
+ghost use Rattle.stable.specs.inner.Index.{ruleAt, LiteralsOn, RuleOn, indexPlaces, Readable, Indexed};
+ghost use Rattle.stable.specs.inner.Steps.{allHold, fires, MarkedOne, AddedMarks, Round, Both, LeastBy, Sought};
+use aspif::kinds::RULE;
 use aspif::walk::after_at;
+use aspif::walk::atom_at;
+use aspif::walk::word_at;
+use faults::ATOM_PLACES;
 use faults::AtomNo;
+
+// The longest index of rules: a rule takes six words of the tape or more.
+const INDEX_PLACES: usize = 10000;
 
 // Which rule is broken first, by the place of its line.
 pub enum Broken {
@@ -28,23 +39,22 @@ pub enum Unfounded {
     Atom(AtomNo),
 }
 
-// The word at a place of the tape, and 0 past its end.
-fn word_at(tape: &[u32], p: usize) -> usize
+// The count at a place of the tape, and 0 past its end.
+fn count_at(tape: &[u32], p: usize) -> usize
     ensures { λ r. ⌜ r ≡ word (now (tape .entry)) p ⌝ }
-    ensures { λ r. ⌜ r < 4294967296 ⌝ }
 {
-    let w = aspif::walk::word_at(tape, p, 0);
+    let w = word_at(tape, p, 0);
     w as usize
 }
 
 // Whether each literal of the list at `at` is true, negated atoms being looked up in x and the others in s.
 fn body_true(tape: &[u32], at: usize, x: &[u8], s: &[u8]) -> bool
-    requires { ⌜ LiteralsAt (now tape) at ⌝ }
-    requires { ⌜ length (now x) ≡ 4097 ⌝ }
-    requires { ⌜ length (now s) ≡ 4097 ⌝ }
-    ensures { λ r. ⌜ r ≡ holds (isMarked (now (x .entry))) (isMarked (now (s .entry))) (literalsAt (now (tape .entry)) at) ⌝ }
+    requires { ⌜ LiteralsOn (now tape) at ⌝ }
+    requires { ⌜ length (now x) ≡ atomPlaces ⌝ }
+    requires { ⌜ length (now s) ≡ atomPlaces ⌝ }
+    ensures { λ r. ⌜ r ≡ allHold (isMarked (now (x .entry))) (isMarked (now (s .entry))) (literalsAt (now (tape .entry)) at) ⌝ }
 {
-    let mut left = word_at(tape, at);
+    let mut left = count_at(tape, at);
     let mut p = at + 1;
     while left != 0 {
         let w = tape[p] as usize;
@@ -64,38 +74,42 @@ fn body_true(tape: &[u32], at: usize, x: &[u8], s: &[u8]) -> bool
     true
 }
 
-// Whether the rule at p is broken in x.
-fn is_broken(tape: &[u32], p: usize, x: &[u8]) -> bool
-    requires { ⌜ RuleAt (now tape) p ⌝ }
-    requires { ⌜ length (now x) ≡ 4097 ⌝ }
-    ensures { λ r. ⌜ r ≡ broken (isMarked (now (x .entry))) (saysAt (now (tape .entry)) p) ⌝ }
+// Whether the rule at q is broken in x.
+fn is_broken(tape: &[u32], q: usize, x: &[u8]) -> bool
+    requires { ⌜ RuleOn (now tape) q ⌝ }
+    requires { ⌜ length (now x) ≡ atomPlaces ⌝ }
+    ensures { λ r. ⌜ r ≡ broken (isMarked (now (x .entry))) (some (ruleAt (now (tape .entry)) q)) ⌝ }
 {
-    if tape[p + 2] != 0 {
+    if tape[q + 1] != 0 {
         return false;
     }
-    let n = word_at(tape, p + 3);
+    let h = q + 2;
+    let n = count_at(tape, h);
     if n != 0 {
-        let a = tape[p + 4] as usize;
-        if x[a] == 1 {
+        let a = atom_at(tape, h, 1);
+        let v = a.0 as usize;
+        if x[v] == 1 {
             return false;
         }
     }
-    let b = p + 4 + n;
+    let b = h + 1 + n;
     body_true(tape, b, x, x)
 }
 
 // The first broken rule among n lines.
 pub fn first_broken(tape: &[u32], n: usize, x: &[u8]) -> Broken
-    requires { ⌜ Taped (now tape) n ⌝ }
-    requires { ⌜ length (now x) ≡ 4097 ⌝ }
+    requires { ⌜ Ahead (now tape) 0 n ⌝ }
+    requires { ⌜ length (now x) ≡ atomPlaces ⌝ }
     ensures { λ r. ⌜ asBroken r ≡ firstBroken (isMarked (now (x .entry))) (linesOf (now (tape .entry)) n) ⌝ }
 {
     let mut p = 0;
     let mut left = n;
     while left != 0 {
-        if tape[p] == 1 {
-            if is_broken(tape, p, x) {
-                return Broken::At(tape[p + 1]);
+        if word_at(tape, p, 2) == RULE {
+            let q = p + 2;
+            if is_broken(tape, q, x) {
+                let place = tape[p];
+                return Broken::At(place);
             }
         }
         p = after_at(tape, p);
@@ -105,14 +119,15 @@ pub fn first_broken(tape: &[u32], n: usize, x: &[u8]) -> Broken
 }
 
 // Whether a was not marked before, as 1 or 0; it is marked now.
-fn mark(found: &mut [u8], a: usize) -> usize
-    requires { ⌜ a < length (now found) ⌝ }
-    ensures { λ r. ⌜ Marked (now (found .entry)) (now (found .exit)) a r ⌝ }
+fn mark(found: &mut [u8], a: AtomNo) -> usize
+    requires { ⌜ a .0 < length (now found) ⌝ }
+    ensures { λ r. ⌜ MarkedOne (now (found .entry)) (now (found .exit)) (a .0) r ⌝ }
 {
-    if found[a] == 1 {
+    let v = a.0 as usize;
+    if found[v] == 1 {
         return 0;
     }
-    found[a] = 1;
+    found[v] = 1;
     1
 }
 
@@ -120,32 +135,33 @@ fn mark(found: &mut [u8], a: usize) -> usize
 fn add_single(tape: &[u32], at: usize, found: &mut [u8]) -> usize
     requires { ⌜ behind (now tape) at ≤ length (now tape) ⌝ }
     requires { ⌜ SmallHead (plainHead (listAt (now tape) at)) ⌝ }
-    requires { ⌜ length (now found) ≡ 4097 ⌝ }
-    ensures { λ r. ⌜ Added (λ (a : ℕ). inHead a (plainHead (listAt (now (tape .entry)) at))) (now (found .entry)) (now (found .exit)) r ⌝ }
+    requires { ⌜ length (now found) ≡ atomPlaces ⌝ }
+    ensures { λ r. ⌜ AddedMarks (λ (a : ℕ). inHead a (plainHead (listAt (now (tape .entry)) at))) (now (found .entry)) (now (found .exit)) r ⌝ }
 {
-    let n = word_at(tape, at);
+    let n = count_at(tape, at);
     if n == 0 {
         return 0;
     }
-    let a = tape[at + 1] as usize;
-    mark(found, a)
+    let w = tape[at + 1];
+    mark(found, AtomNo(w))
 }
 
 // How many atoms in x of the choice head at `at` are newly marked.
 fn add_chosen(tape: &[u32], at: usize, x: &[u8], found: &mut [u8]) -> usize
     requires { ⌜ behind (now tape) at ≤ length (now tape) ⌝ }
-    requires { ⌜ AllBelow 4097 (listAt (now tape) at) ⌝ }
-    requires { ⌜ length (now x) ≡ 4097 ⌝ }
-    requires { ⌜ length (now found) ≡ 4097 ⌝ }
-    ensures { λ r. ⌜ Added (λ (a : ℕ). among a (listAt (now (tape .entry)) at) && isMarked (now (x .entry)) a) (now (found .entry)) (now (found .exit)) r ⌝ }
+    requires { ⌜ SmallHead (choice (listAt (now tape) at)) ⌝ }
+    requires { ⌜ length (now x) ≡ atomPlaces ⌝ }
+    requires { ⌜ length (now found) ≡ atomPlaces ⌝ }
+    ensures { λ r. ⌜ AddedMarks (λ (a : ℕ). among a (listAt (now (tape .entry)) at) && isMarked (now (x .entry)) a) (now (found .entry)) (now (found .exit)) r ⌝ }
 {
-    let mut left = word_at(tape, at);
+    let mut left = count_at(tape, at);
     let mut p = at + 1;
     let mut added = 0;
     while left != 0 {
-        let a = tape[p] as usize;
+        let w = tape[p];
+        let a = w as usize;
         if x[a] == 1 {
-            let k = mark(found, a);
+            let k = mark(found, AtomNo(w));
             added += k;
         }
         p += 1;
@@ -154,20 +170,20 @@ fn add_chosen(tape: &[u32], at: usize, x: &[u8], found: &mut [u8]) -> usize
     added
 }
 
-// How many atoms are new by the rule at p: its heads, where its body is true by x and the atoms found.
-fn fire(tape: &[u32], p: usize, x: &[u8], found: &mut [u8]) -> usize
-    requires { ⌜ RuleAt (now tape) p ⌝ }
-    requires { ⌜ length (now x) ≡ 4097 ⌝ }
-    requires { ⌜ length (now found) ≡ 4097 ⌝ }
-    ensures { λ r. ⌜ Added (fires (isMarked (now (x .entry))) (isMarked (now (found .entry))) (headAt (now (tape .entry)) p) (bodyAt (now (tape .entry)) p)) (now (found .entry)) (now (found .exit)) r ⌝ }
+// How many atoms are new by the rule at q: its heads, where its body is true by x and the atoms found.
+fn fire(tape: &[u32], q: usize, x: &[u8], found: &mut [u8]) -> usize
+    requires { ⌜ RuleOn (now tape) q ⌝ }
+    requires { ⌜ length (now x) ≡ atomPlaces ⌝ }
+    requires { ⌜ length (now found) ≡ atomPlaces ⌝ }
+    ensures { λ r. ⌜ AddedMarks (fires (isMarked (now (x .entry))) (isMarked (now (found .entry))) (ruleAt (now (tape .entry)) q)) (now (found .entry)) (now (found .exit)) r ⌝ }
 {
-    let n = word_at(tape, p + 3);
-    let h = p + 3;
-    let b = p + 4 + n;
+    let h = q + 2;
+    let n = count_at(tape, h);
+    let b = h + 1 + n;
     if !body_true(tape, b, x, found) {
         return 0;
     }
-    if tape[p + 2] != 0 {
+    if tape[q + 1] != 0 {
         return add_chosen(tape, h, x, found);
     }
     add_single(tape, h, found)
@@ -176,15 +192,15 @@ fn fire(tape: &[u32], p: usize, x: &[u8], found: &mut [u8]) -> usize
 // How many atoms are new after every rule has been visited once.
 fn round(tape: &[u32], index: &[u32], m: usize, x: &[u8], found: &mut [u8]) -> usize
     requires { ⌜ Readable (now tape) (now index) m ⌝ }
-    requires { ⌜ length (now x) ≡ 4097 ⌝ }
-    requires { ⌜ length (now found) ≡ 4097 ⌝ }
+    requires { ⌜ length (now x) ≡ atomPlaces ⌝ }
+    requires { ⌜ length (now found) ≡ atomPlaces ⌝ }
     ensures { λ r. ⌜ Round (isMarked (now (x .entry))) (now (tape .entry)) (now (index .entry)) m (now (found .entry)) (now (found .exit)) r ⌝ }
 {
     let mut t = 0;
     let mut i = 0;
     while i < m {
-        let p = index[i] as usize;
-        let k = fire(tape, p, x, found);
+        let q = index[i] as usize;
+        let k = fire(tape, q, x, found);
         t += k;
         i += 1;
     }
@@ -203,13 +219,13 @@ fn both(e: u8, v: u8) -> u8
 
 // The external atoms in x, as the first atoms found.
 fn facts(ext: &[u8], x: &[u8], found: &mut [u8])
-    requires { ⌜ length (now ext) ≡ 4097 ⌝ }
-    requires { ⌜ length (now x) ≡ 4097 ⌝ }
-    requires { ⌜ length (now found) ≡ 4097 ⌝ }
+    requires { ⌜ length (now ext) ≡ atomPlaces ⌝ }
+    requires { ⌜ length (now x) ≡ atomPlaces ⌝ }
+    requires { ⌜ length (now found) ≡ atomPlaces ⌝ }
     ensures { λ r. ⌜ Both (now (ext .entry)) (now (x .entry)) (now (found .exit)) ⌝ }
 {
     let mut a = 0;
-    while a < 4097 {
+    while a < ATOM_PLACES {
         let v = both(ext[a], x[a]);
         found[a] = v;
         a += 1;
@@ -219,9 +235,9 @@ fn facts(ext: &[u8], x: &[u8], found: &mut [u8])
 // The least model of the reduct, by rounds until nothing is new.
 fn least(tape: &[u32], index: &[u32], m: usize, ext: &[u8], x: &[u8], found: &mut [u8])
     requires { ⌜ Readable (now tape) (now index) m ⌝ }
-    requires { ⌜ length (now ext) ≡ 4097 ⌝ }
-    requires { ⌜ length (now x) ≡ 4097 ⌝ }
-    requires { ⌜ length (now found) ≡ 4097 ⌝ }
+    requires { ⌜ length (now ext) ≡ atomPlaces ⌝ }
+    requires { ⌜ length (now x) ≡ atomPlaces ⌝ }
+    requires { ⌜ length (now found) ≡ atomPlaces ⌝ }
     ensures { λ r. ⌜ LeastBy (isMarked (now (x .entry))) (isMarked (now (ext .entry))) (now (tape .entry)) (now (index .entry)) m (now (found .exit)) ⌝ }
 {
     facts(ext, x, found);
@@ -233,12 +249,12 @@ fn least(tape: &[u32], index: &[u32], m: usize, ext: &[u8], x: &[u8], found: &mu
 
 // The smallest atom in x that is not found.
 fn seek(x: &[u8], found: &[u8]) -> Unfounded
-    requires { ⌜ length (now x) ≡ 4097 ⌝ }
-    requires { ⌜ length (now found) ≡ 4097 ⌝ }
+    requires { ⌜ length (now x) ≡ atomPlaces ⌝ }
+    requires { ⌜ length (now found) ≡ atomPlaces ⌝ }
     ensures { λ r. ⌜ Sought (asUnfounded r) (now (x .entry)) (now (found .entry)) ⌝ }
 {
     let mut a: usize = 0;
-    while a < 4097 {
+    while a < ATOM_PLACES {
         if x[a] == 1 {
             if found[a] != 1 {
                 let atom = a as u32;
@@ -250,19 +266,20 @@ fn seek(x: &[u8], found: &[u8]) -> Unfounded
     Unfounded::None
 }
 
-// How many rules are among n lines; their places stand in the first places of the index.
+// How many rules are among n lines; the places of their kinds stand in the first places of the index.
 fn list_rules(tape: &[u32], n: usize, index: &mut [u32]) -> usize
     requires { ⌜ Ahead (now tape) 0 n ⌝ }
-    requires { ⌜ length (now tape) ≤ 60000 ⌝ }
-    requires { ⌜ length (now index) ≡ 12000 ⌝ }
+    requires { ⌜ length (now tape) ≤ longestText ⌝ }
+    requires { ⌜ length (now index) ≡ indexPlaces ⌝ }
     ensures { λ r. ⌜ Indexed (now (tape .entry)) n (now (index .exit)) r ⌝ }
 {
     let mut m = 0;
     let mut p = 0;
     let mut left = n;
     while left != 0 {
-        if tape[p] == 1 {
-            index[m] = p as u32;
+        if word_at(tape, p, 2) == RULE {
+            let q = p + 2;
+            index[m] = q as u32;
             m += 1;
         }
         p = after_at(tape, p);
@@ -273,15 +290,15 @@ fn list_rules(tape: &[u32], n: usize, index: &mut [u32]) -> usize
 
 // The smallest unfounded atom of x by the rules among n lines.
 pub fn smallest_unfounded(tape: &[u32], n: usize, ext: &[u8], x: &[u8]) -> Unfounded
-    requires { ⌜ Taped (now tape) n ⌝ }
-    requires { ⌜ length (now tape) ≤ 60000 ⌝ }
-    requires { ⌜ length (now ext) ≡ 4097 ⌝ }
-    requires { ⌜ length (now x) ≡ 4097 ⌝ }
+    requires { ⌜ Ahead (now tape) 0 n ⌝ }
+    requires { ⌜ length (now tape) ≤ longestText ⌝ }
+    requires { ⌜ length (now ext) ≡ atomPlaces ⌝ }
+    requires { ⌜ length (now x) ≡ atomPlaces ⌝ }
     ensures { λ r. ⌜ FoundedBy (asUnfounded r) (isMarked (now (x .entry))) (isMarked (now (ext .entry))) (linesOf (now (tape .entry)) n) ⌝ }
 {
-    let mut index = [0u32; 12000];
+    let mut index = [0u32; INDEX_PLACES];
     let m = list_rules(tape, n, &mut index);
-    let mut found = [0u8; 4097];
+    let mut found = [0u8; ATOM_PLACES];
     least(tape, &index, m, ext, x, &mut found);
     seek(x, &found)
 }

@@ -10,9 +10,9 @@ use borrow.Author.Tests.{eqb-true, eq-eqb}
 use lib.Dec.{eqb}
 use lib.IntN.{ℤ, pos, negsuc, negℤ}
 use Rattle.basics.specs.Bools.{pick}
-use Rattle.aspif.specs.Statements.{Line}
+use Rattle.aspif.specs.Statements.{Term, num, str, comp, Element, elem, unguarded, guard, states, Line}
 use Rattle.diffs.specs.Diff.{Diff}
-use Rattle.terms.specs.Says.{Term, num, str, comp, Element, elem, unguarded, guard, states, term, elementAt, diffWord, minus, atMost, Bound, plain, negated, Difference}
+use Rattle.terms.specs.Says.{term, elementAt, diffWord, minus, atMost, Bound, plain, negated, Difference}
 use Rattle.terms.specs.Terms.{sameBytes, isString, isMinus, opposite, boundOf, Pair, pairOf, pairIn, joined, differenceOf, known, notDifference}
 use Rattle.terms.proofs.Known.{term-append, element-append}
 
@@ -260,5 +260,5 @@ pub difference-exactly : (ls : List Line) (p : ℕ) (vs : List ℕ) (g u : ℕ) 
 difference-exactly ls p vs g u d = (said ls p vs g u d, found-said ls p vs g u d)
 
 -- so a theory atom that is a difference is not refused as none
-pub difference-taken : (ls : List Line) (a p : ℕ) (vs : List ℕ) (g u : ℕ) (d : Diff) → Difference ls p vs g u d → notDifference (known ls) (states a p vs (guard g u)) ≡ false
+pub difference-taken : (ls : List Line) (a p : ℕ) (vs : List ℕ) (g u : ℕ) (d : Diff) → Difference ls p vs g u d → notDifference (known ls) (some (states a p vs (guard g u))) ≡ false
 difference-taken ls a p vs g u d q = rw (found-said ls p vs g u d q)

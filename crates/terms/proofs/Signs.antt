@@ -11,7 +11,7 @@ use mir.Val.{SFits, toZ, ofZ}
 use mir.Facts.{toZ-ofZ}
 use Rattle.basics.specs.Bools.{pick}
 use Rattle.aspif.specs.Grammar.{integerOf}
-use Rattle.terms.specs.Tables.{isTerm}
+use Rattle.terms.specs.inner.Tables.{isTerm}
 
 pub fits-pos : (v : ℕ) → v < 2147483648 → SFits w32 (pos v)
 fits-pos v h = record { sfits = h }

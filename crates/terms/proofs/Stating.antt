@@ -9,9 +9,9 @@ use native.Mathlib.Omega.{arith}
 use borrow.Author.Tests.{eqb-false}
 use lib.Dec.{eqb}
 use Rattle.faults.specs.Answer.{Answer, got, refused}
-use Rattle.aspif.specs.Statements.{Line}
+use Rattle.aspif.specs.Statements.{Guard, unguarded, guard, Theory, defines, collects, states, Line, theoryIn}
 use Rattle.diffs.specs.Diff.{Diff}
-use Rattle.terms.specs.Says.{Guard, unguarded, guard, Part, defines, collects, states, other, partOf, term, elementAt, Difference, SaysIn, Says}
+use Rattle.terms.specs.Says.{term, elementAt, Difference, SaysIn, Says}
 use Rattle.basics.specs.Bools.{pick}
 use Rattle.basics.specs.Lists.{All, NotIn, Distinct, Some, among}
 use Rattle.basics.proofs.Bools.{or-neither}
@@ -51,20 +51,20 @@ record Fine (before : List Line) (a p : ℕ) (vs : List ℕ) (g : Guard) : Type 
   is : differenceOf (term before) (elementAt before) p vs g ≡ some diff
   fresh : taken before a ≡ false
 
-fine : (before : List Line) (a p : ℕ) (vs : List ℕ) (g : Guard) → faulty (known before) (states a p vs g) ≡ false → Fine before a p vs g
+fine : (before : List Line) (a p : ℕ) (vs : List ℕ) (g : Guard) → faulty (known before) (some (states a p vs g)) ≡ false → Fine before a p vs g
 unfolding faulty
 fine before a p vs g h =
-    let q = there (differenceOf (term before) (elementAt before) p vs g) (last-false false (undefinedUse (known before) (states a p vs g)) (taken before a) (notDifference (known before) (states a p vs g)) h) in
-    record { diff = q .value; is = q .is; fresh = third-false false (undefinedUse (known before) (states a p vs g)) (taken before a) (notDifference (known before) (states a p vs g)) h }
+    let q = there (differenceOf (term before) (elementAt before) p vs g) (last-false false (undefinedUse (known before) (some (states a p vs g))) (taken before a) (notDifference (known before) (some (states a p vs g))) h) in
+    record { diff = q .value; is = q .is; fresh = third-false false (undefinedUse (known before) (some (states a p vs g))) (taken before a) (notDifference (known before) (some (states a p vs g))) h }
 
 -- ---- one turn of the list
 
 -- what an answer that was got says of the line and of the lines behind it
 record Turn (before : List Line) (l : Line) (ls : List Line) (ds : List Stated) : Type 0 where
-  fair : faulty (known before) (partOf (l .says)) ≡ false
+  fair : faulty (known before) (theoryIn (l .says)) ≡ false
   rest : List Stated
   behind : differencesFrom (before ++ (l ∷ [])) ls ≡ got rest
-  whole : more (statedBy (known before) (partOf (l .says))) (got rest) ≡ got ds
+  whole : more (statedBy (known before) (theoryIn (l .says))) (got rest) ≡ got ds
 
 got-more : (x : Option Stated) (r : Answer (List Stated)) (ds : List Stated) → more x r ≡ got ds → (es : List Stated) × (r ≡ got es)
 got-more none r ds h = (ds, h)
@@ -73,14 +73,14 @@ got-more (some d) (refused k p) ds h = let z : _≡_ {A = ℕ} 0 1 = (cc) in abs
 
 turn : (before : List Line) (l : Line) (ls : List Line) (ds : List Stated) → differencesFrom before (l ∷ ls) ≡ got ds → Turn before l ls ds
 unfolding differencesFrom
-turn before l ls ds = go (faulty (known before) (partOf (l .says))) refl
+turn before l ls ds = go (faulty (known before) (theoryIn (l .says))) refl
   where
-    go : (b : Bool) → faulty (known before) (partOf (l .says)) ≡ b
-        → pick b (refused 6 (l .place)) (more (statedBy (known before) (partOf (l .says))) (differencesFrom (before ++ (l ∷ [])) ls)) ≡ got ds
+    go : (b : Bool) → faulty (known before) (theoryIn (l .says)) ≡ b
+        → pick b (refused 6 (l .place)) (more (statedBy (known before) (theoryIn (l .says))) (differencesFrom (before ++ (l ∷ [])) ls)) ≡ got ds
         → Turn before l ls ds
     go true q h = let z : _≡_ {A = ℕ} 0 1 = (cc) in absurd (omega arith)
     go false q h =
-        let m = got-more (statedBy (known before) (partOf (l .says))) (differencesFrom (before ++ (l ∷ [])) ls) ds h in
+        let m = got-more (statedBy (known before) (theoryIn (l .says))) (differencesFrom (before ++ (l ∷ [])) ls) ds h in
         record { fair = q; rest = m .0; behind = m .1; whole = rw (m .1) at h }
 
 -- ---- what is listed is what is said
@@ -108,48 +108,48 @@ module _ (whole before ms : List Line) (e : before ++ ms ≡ whole) (a : ℕ) (d
   whole-said : {p : ℕ} {vs : List ℕ} {g u : ℕ} {x : Diff} → Difference before p vs g u x → Difference whole p vs g u x
   whole-said q = rw (← e) (said-more before ms q)
 
-  head-listed : (s : Part) → faulty (known before) s ≡ false → more (statedBy (known before) s) (got rest) ≡ got ds → SaysIn whole a d s → Lists ds a d
-  head-listed (defines u t) f h q = absurd q
-  head-listed (collects v x) f h q = absurd q
-  head-listed (states b p vs unguarded) f h q = absurd q
-  head-listed (states b p vs (guard g u)) f h q =
+  head-listed : (s : Option Theory) → faulty (known before) s ≡ false → more (statedBy (known before) s) (got rest) ≡ got ds → SaysIn whole a d s → Lists ds a d
+  head-listed (some (defines u t)) f h q = absurd q
+  head-listed (some (collects v x)) f h q = absurd q
+  head-listed (some (states b p vs unguarded)) f h q = absurd q
+  head-listed (some (states b p vs (guard g u))) f h q =
       let k = fine before b p vs (guard g u) f in
       let o : d ≡ k .diff = said-one (q .1) (whole-said (said before p vs g u (k .diff) (k .is))) in
       let y : record { atom = b; says = k .diff } ∷ rest ≡ ds = more-is _ rest ds (rw (k .is) at h) in
       rw (← y) (inl (stated-eq a b d (k .diff) (q .0) o))
-  head-listed other f h q = absurd q
+  head-listed none f h q = absurd q
 
-  list-said : (s : Part) → faulty (known before) s ≡ false → more (statedBy (known before) s) (got rest) ≡ got ds → Lists ds a d → SaysIn whole a d s ⊎ Lists rest a d
-  list-said (defines u t) f h q = inr (rw (got-is h) q)
-  list-said (collects v x) f h q = inr (rw (got-is h) q)
-  list-said (states b p vs unguarded) f h q = let k = fine before b p vs unguarded f in absurd (unsaid (term before) (elementAt before) p vs (k .diff) (k .is))
-  list-said (states b p vs (guard g u)) f h q =
+  list-said : (s : Option Theory) → faulty (known before) s ≡ false → more (statedBy (known before) s) (got rest) ≡ got ds → Lists ds a d → SaysIn whole a d s ⊎ Lists rest a d
+  list-said (some (defines u t)) f h q = inr (rw (got-is h) q)
+  list-said (some (collects v x)) f h q = inr (rw (got-is h) q)
+  list-said (some (states b p vs unguarded)) f h q = let k = fine before b p vs unguarded f in absurd (unsaid (term before) (elementAt before) p vs (k .diff) (k .is))
+  list-said (some (states b p vs (guard g u))) f h q =
       let k = fine before b p vs (guard g u) f in
       let y : record { atom = b; says = k .diff } ∷ rest ≡ ds = more-is _ rest ds (rw (k .is) at h) in
       let z : Lists (record { atom = b; says = k .diff } ∷ rest) a d = lists-as _ ds a d y q in
       ⊎-elim (λ w. inl (ap (λ (x : Stated). x .atom) w, said-as (ap (λ (x : Stated). x .says) w) (whole-said (said before p vs g u (k .diff) (k .is))))) (λ w. inr w) z
-  list-said other f h q = inr (rw (got-is h) q)
+  list-said none f h q = inr (rw (got-is h) q)
 
 one-more : (before : List Line) (l : Line) (ls whole : List Line) → before ++ (l ∷ ls) ≡ whole → (before ++ (l ∷ [])) ++ ls ≡ whole
 one-more before l ls whole e = append-assoc before (l ∷ []) ls ∙ e
 
 listed-from : (whole before ls : List Line) (ds : List Stated) (a : ℕ) (d : Diff) → before ++ ls ≡ whole → differencesFrom before ls ≡ got ds
-    → Some (λ (l : Line). SaysIn whole a d (partOf (l .says))) ls → Lists ds a d
+    → Some (λ (l : Line). SaysIn whole a d (theoryIn (l .says))) ls → Lists ds a d
 listed-from whole before [] ds a d e h q = absurd q
 listed-from whole before (l ∷ ls) ds a d e h q =
     let t = turn before l ls ds h in
-    ⊎-elim (λ w. head-listed whole before (l ∷ ls) e a d (t .rest) ds (partOf (l .says)) (t .fair) (t .whole) w)
-    (λ w. later (statedBy (known before) (partOf (l .says))) (t .rest) ds a d (t .whole) (listed-from whole (before ++ (l ∷ [])) ls (t .rest) a d (one-more before l ls whole e) (t .behind) w))
+    ⊎-elim (λ w. head-listed whole before (l ∷ ls) e a d (t .rest) ds (theoryIn (l .says)) (t .fair) (t .whole) w)
+    (λ w. later (statedBy (known before) (theoryIn (l .says))) (t .rest) ds a d (t .whole) (listed-from whole (before ++ (l ∷ [])) ls (t .rest) a d (one-more before l ls whole e) (t .behind) w))
     q
 
 said-from : (whole before ls : List Line) (ds : List Stated) (a : ℕ) (d : Diff) → before ++ ls ≡ whole → differencesFrom before ls ≡ got ds
-    → Lists ds a d → Some (λ (l : Line). SaysIn whole a d (partOf (l .says))) ls
+    → Lists ds a d → Some (λ (l : Line). SaysIn whole a d (theoryIn (l .says))) ls
 unfolding differencesFrom
 said-from whole before [] ds a d e h q = rw (← got-is h) at q
 said-from whole before (l ∷ ls) ds a d e h q =
     let t = turn before l ls ds h in
     ⊎-elim (λ w. inl w) (λ w. inr (said-from whole (before ++ (l ∷ [])) ls (t .rest) a d (one-more before l ls whole e) (t .behind) w))
-    (list-said whole before (l ∷ ls) e a d (t .rest) ds (partOf (l .says)) (t .fair) (t .whole) q)
+    (list-said whole before (l ∷ ls) e a d (t .rest) ds (theoryIn (l .says)) (t .fair) (t .whole) q)
 
 module _ (ls : List Line) (ds : List Stated) (h : differences ls ≡ got ds) where
   -- what an atom says is listed
@@ -184,23 +184,23 @@ module _ (before : List Line) (l : Line) (rest ds : List Stated) (r : Apart (bef
   same-apart : got rest ≡ got ds → Apart before ds
   same-apart h = rw (← got-is h) (record { fresh = still-fresh; distinct = r .distinct })
 
-  more-apart : (s : Part) → partOf (l .says) ≡ s → faulty (known before) s ≡ false → more (statedBy (known before) s) (got rest) ≡ got ds → Apart before ds
+  more-apart : (s : Option Theory) → theoryIn (l .says) ≡ s → faulty (known before) s ≡ false → more (statedBy (known before) s) (got rest) ≡ got ds → Apart before ds
   unfolding taken
-  more-apart (defines u t) p f h = same-apart h
-  more-apart (collects v x) p f h = same-apart h
-  more-apart (states b q vs g) p f h =
+  more-apart (some (defines u t)) p f h = same-apart h
+  more-apart (some (collects v x)) p f h = same-apart h
+  more-apart (some (states b q vs g)) p f h =
       let k = fine before b q vs g f in
       let y : record { atom = b; says = k .diff } ∷ rest ≡ ds = more-is _ rest ds (rw (k .is) at h) in
       rw (← y)
       (record { fresh = (k .fresh, still-fresh); distinct = (not-atom b rest (all-map _ _ (λ (s : Stated) w. rw p at (untaken before l (s .atom) w .1)) rest (r .fresh)), r .distinct) })
-  more-apart other p f h = same-apart h
+  more-apart none p f h = same-apart h
 
 apart-from : (before ls : List Line) (ds : List Stated) → differencesFrom before ls ≡ got ds → Apart before ds
 unfolding differencesFrom
 apart-from before [] ds h = rw (← got-is h) (record { fresh = tt; distinct = tt })
 apart-from before (l ∷ ls) ds h =
     let t = turn before l ls ds h in
-    more-apart before l (t .rest) ds (apart-from (before ++ (l ∷ [])) ls (t .rest) (t .behind)) (partOf (l .says)) refl (t .fair) (t .whole)
+    more-apart before l (t .rest) ds (apart-from (before ++ (l ∷ [])) ls (t .rest) (t .behind)) (theoryIn (l .says)) refl (t .fair) (t .whole)
 
 -- no two differences listed have the same atom
 pub atoms-differ : (ls : List Line) (ds : List Stated) → differences ls ≡ got ds → Distinct (map (λ (s : Stated). s .atom) ds)
@@ -228,24 +228,24 @@ says-one ls ds h a d e p q = lists-one a d e ds (atoms-differ ls ds h) (says-lis
 
 -- ---- the atoms listed are those that have a theory statement
 
-more-taken : (before : List Line) (s : Part) (rest ds : List Stated) (ls : List Line) (a : ℕ)
+more-taken : (before : List Line) (s : Option Theory) (rest ds : List Stated) (ls : List Line) (a : ℕ)
     → faulty (known before) s ≡ false → more (statedBy (known before) s) (got rest) ≡ got ds
     → among a (map (λ (x : Stated). x .atom) rest) ≡ taken ls a
     → among a (map (λ (x : Stated). x .atom) ds) ≡ statesIn a s || taken ls a
-more-taken before (defines u t) rest ds ls a h w e = rw (← got-is w) e
-more-taken before (collects v t) rest ds ls a h w e = rw (← got-is w) e
-more-taken before (states b p vs g) rest ds ls a h w e =
+more-taken before (some (defines u t)) rest ds ls a h w e = rw (← got-is w) e
+more-taken before (some (collects v t)) rest ds ls a h w e = rw (← got-is w) e
+more-taken before (some (states b p vs g)) rest ds ls a h w e =
     let f = fine before b p vs g h in
     let d = more-is (record { atom = b; says = f .diff }) rest ds (rw (f .is) at w) in
     rw (← d, e)
-more-taken before other rest ds ls a h w e = rw (← got-is w) e
+more-taken before none rest ds ls a h w e = rw (← got-is w) e
 
 taken-from : (before ls : List Line) (ds : List Stated) → differencesFrom before ls ≡ got ds → (a : ℕ) → among a (map (λ (x : Stated). x .atom) ds) ≡ taken ls a
 unfolding differencesFrom taken
 taken-from before [] ds h a = rw (← got-is h)
 taken-from before (l ∷ ls) ds h a =
     let t = turn before l ls ds h in
-    more-taken before (partOf (l .says)) (t .rest) ds ls a (t .fair) (t .whole) (taken-from (before ++ (l ∷ [])) ls (t .rest) (t .behind) a)
+    more-taken before (theoryIn (l .says)) (t .rest) ds ls a (t .fair) (t .whole) (taken-from (before ++ (l ∷ [])) ls (t .rest) (t .behind) a)
 
 -- an atom is listed exactly if it has a theory statement
 pub atoms-taken : (ls : List Line) (ds : List Stated) → differences ls ≡ got ds → (a : ℕ) → among a (map (λ (x : Stated). x .atom) ds) ≡ taken ls a

@@ -1,8 +1,8 @@
--- One line's turn: what entering its number does to the tables, and how its answer goes on to the lines behind it.
+-- One line's turn: what entering its number does to the tables, how its answer goes on to the lines behind it, and how a difference is stored.
 use Prim.Native.Nat.{ℕ, zero, suc, _+_, _≤_, _<_}
-use mathlib.Core.Path.{_≡_, refl, sym, _∙_, fun-ext}
+use mathlib.Core.Path.{_≡_, refl, sym, ap, _∙_, fun-ext}
 use mathlib.Core.List.{List, [], _∷_, append-assoc}
-use mathlib.Core.Bool.{Bool, true, false, _&&_}
+use mathlib.Core.Bool.{Bool, true, false, _&&_, not}
 use mathlib.Core.Option.{Option, some, none}
 use native.Mathlib.Omega.{arith}
 use native.Mathlib.Numerals.{add-one}
@@ -11,95 +11,78 @@ use lib.ListN.{length, getD, set, length-set}
 use lib.Seq.{getD-set-same, getD-set-other}
 use lib.Dec.{eqb}
 use lib.IntN.{ℤ, pos}
-use Rattle.faults.specs.Answer.{Answer, got, refused, bind}
-use Rattle.faults.specs.Values.{asStep}
-use Rattle.faults.specs.declared.Step.{Step}
-use Rattle.faults.specs.declared.Step.the-variants.{Good, Refused}
 use Rattle.basics.specs.Bools.{pick}
 use Rattle.basics.proofs.Bools.{or-true}
-use Rattle.aspif.specs.Statements.{Line}
-use Rattle.aspif.specs.Words.{word}
+use Rattle.faults.specs.Answer.{Answer, got, refused}
+use Rattle.faults.specs.inner.Places.{atomPlaces}
+use Rattle.faults.specs.declared.Step.the-variants.{Good, Refused}
+use Rattle.faults.specs.declared.Refusal.{Refusal}
+use Rattle.aspif.specs.Statements.{Term, Element, Guard, unguarded, guard, theoryIn}
+use Rattle.aspif.specs.inner.Words.{word, wordsFrom, saysAt}
 use Rattle.diffs.specs.Diff.{Diff}
-use Rattle.terms.specs.Says.{Term, Element, Guard, unguarded, guard, Part, defines, collects, states, diffWord, atMost}
-use Rattle.terms.specs.Terms.{Env, defined, allDefined, isString, boundOf, Pair, pairIn, joined, differenceOf, guardUses, Stated, faulty, more}
-use Rattle.terms.specs.Tables.{wordsAt, termOn, elementOn, guardOn, termAt, elementOf, lookIn, elementsIn, takenIn, envOf, statedOn, Blank, at, add, walk, turn, heldAt, firsts, gather, marks, Room, countedIf}
-
--- ---- answers
-
--- a line that is refused ends the walk
-pub turn-stops : (n : ℕ) (f : ℕ → Stated) (env : Env) (place : ℕ) (s : Part) (ls : List Line) (k : ℕ → Answer (List Stated)) (a : Answer ℕ)
-    → a ≡ refused 6 place → true ≡ faulty env s → bind a k ≡ gather n f (turn env place s ls)
-unfolding gather turn
-turn-stops n f env place s ls k a e b = rw (e, ← b)
-
-pub counted-stops : (r : Step) (k p : ℕ) (seen : List ℕ) → asStep r ≡ refused k p → countedIf r seen
-counted-stops (Good m) k p seen h = let z : _≡_ {A = ℕ} 0 1 = (cc) in absurd (omega arith)
-counted-stops (Refused r) k p seen h = tt
+use Rattle.terms.specs.Says.{diffWord, atMost}
+use Rattle.terms.specs.Terms.{defined, allDefined, isString, boundOf, Pair, pairIn, joined, differenceOf, guardUses, Stated, faulty, more}
+use Rattle.terms.specs.inner.Tables.{roleOf, termOf, elementOf, termOn, elementOn, lookIn, elementsIn, takenIn, envOf, statedOn, AllZero, entered, changed, add, walk, heldAt, tabulated, gather}
+use Rattle.terms.specs.inner.Values.{asTurn, Turned, RoomFor, Stored}
+use Rattle.terms.specs.declared.lines.Turn.{Turn}
+use Rattle.terms.specs.declared.lines.Role.the-variants as role
+use Rattle.terms.specs.declared.lines.Turn.the-variants as turn
+use Rattle.terms.proofs.ByKind.{role-does}
+use Rattle.terms.proofs.Differing.{never}
 
 -- ---- what entering a number does
 
-enter : (l : List ℕ) (u m v : ℕ) → u < length l → word (set l u m) v ≡ pick (eqb v u) m (word l v)
+-- what a table stands for, by its entries
+enter : {A : Type 0} (f : ℕ → A) (l : List ℕ) (u m : ℕ) → u < length l → (λ v. f (word (set l u m) v)) ≡ changed (λ v. f (word l v)) u (f m)
 unfolding word
-enter l u m v h = go (eqb v u) refl
+enter f l u m h = fun-ext (λ v. go v (eqb v u) refl)
   where
-    go : (b : Bool) → eqb v u ≡ b → getD (set l u m) v 0 ≡ pick b m (getD l v 0)
-    go true q = rw (eqb-true v u q) (getD-set-same l u m 0 h)
-    go false q = getD-set-other l u v m 0 (eqb-false v u q)
+    go : (v : ℕ) (b : Bool) → eqb v u ≡ b → f (getD (set l u m) v 0) ≡ pick b (f m) (f (getD l v 0))
+    go v true q = rw (eqb-true v u q, getD-set-same l u m 0 h)
+    go v false q = rw (getD-set-other l u v m 0 (eqb-false v u q))
 
-term-mark : (t : List ℕ) (p : ℕ) → termAt t (p + 1) ≡ some (termOn t p)
-unfolding termAt
-term-mark t p = rw add-one
+module _ (t : List ℕ) (q : ℕ) where
+  terms-entered : (terms : List ℕ) (u : ℕ) → u < length terms → lookIn t (set terms u (q + 1)) ≡ changed (lookIn t terms) u (some (termOf (theoryIn (saysAt t q))))
+  unfolding lookIn termOn
+  terms-entered terms u h = enter (termOn t) terms u (q + 1) h ∙ rw add-one
 
-element-mark : (t : List ℕ) (p : ℕ) → elementOf t (p + 1) ≡ some (elementOn t p)
-unfolding elementOf
-element-mark t p = rw add-one
+  elements-entered : (els : List ℕ) (u : ℕ) → u < length els → elementsIn t (set els u (q + 1)) ≡ changed (elementsIn t els) u (some (elementOf (theoryIn (saysAt t q))))
+  unfolding elementsIn elementOn
+  elements-entered els u h = enter (elementOn t) els u (q + 1) h ∙ rw add-one
 
-terms-entered : (t terms : List ℕ) (u p : ℕ) → u < length terms → lookIn t (set terms u (p + 1)) ≡ at (lookIn t terms) u (some (termOn t p))
-unfolding lookIn
-terms-entered t terms u p h = fun-ext (λ v. go v (eqb v u) (enter terms u (p + 1) v h))
-  where
-    go : (v : ℕ) (b : Bool) → word (set terms u (p + 1)) v ≡ pick b (p + 1) (word terms v) → lookIn t (set terms u (p + 1)) v ≡ pick b (some (termOn t p)) (lookIn t terms v)
-    go v true e = rw e (term-mark t p)
-    go v false e = rw e
-
-elements-entered : (t els : List ℕ) (u p : ℕ) → u < length els → elementsIn t (set els u (p + 1)) ≡ at (elementsIn t els) u (some (elementOn t p))
-unfolding elementsIn
-elements-entered t els u p h = fun-ext (λ v. go v (eqb v u) (enter els u (p + 1) v h))
-  where
-    go : (v : ℕ) (b : Bool) → word (set els u (p + 1)) v ≡ pick b (p + 1) (word els v) → elementsIn t (set els u (p + 1)) v ≡ pick b (some (elementOn t p)) (elementsIn t els v)
-    go v true e = rw e (element-mark t p)
-    go v false e = rw e
-
-seen-entered : (seen : List ℕ) (u p : ℕ) → u < length seen → takenIn (set seen u (p + 1)) ≡ at (takenIn seen) u true
+seen-entered : (seen : List ℕ) (u q : ℕ) → u < length seen → takenIn (set seen u (q + 1)) ≡ changed (takenIn seen) u true
 unfolding takenIn
-seen-entered seen u p h = fun-ext (λ v. go v (eqb v u) (enter seen u (p + 1) v h))
-  where
-    go : (v : ℕ) (b : Bool) → word (set seen u (p + 1)) v ≡ pick b (p + 1) (word seen v) → takenIn (set seen u (p + 1)) v ≡ pick b true (takenIn seen v)
-    go v true e = rw (e, ne-eqb (p + 1) 0 (λ z. omega arith))
-    go v false e = rw e
+seen-entered seen u q h = rw (ne-eqb (q + 1) 0 (λ z. omega arith)) at (enter (λ e. not (eqb e 0)) seen u (q + 1) h)
 
--- ---- a term's turn and an element's turn
+-- ---- a line's turn
 
-module _ (n : ℕ) (f : ℕ → Stated) (ls : List Line) (t terms els seen : List ℕ) (p u : ℕ) (eu : u ≡ word t (p + 2)) where
-  term-added : u < length terms → add (envOf t terms els seen) (defines (word t (p + 2)) (termOn t p)) ≡ envOf t (set terms u (p + 1)) els seen
-  unfolding add envOf
-  term-added l = rw (← eu, terms-entered t terms u p l)
+module _ (t terms els seen : List ℕ) (p : ℕ) where
+  -- whether the line at p is faulty
+  abbrev fault : Bool
+  fault = faulty (envOf t terms els seen) (theoryIn (saysAt t (p + 2)))
 
-  pub term-goes : (terms′ : List ℕ) → false ≡ faulty (envOf t terms els seen) (defines (word t (p + 2)) (termOn t p))
-      → u < length terms → terms′ ≡ set terms u (p + 1)
-      → gather n f (walk (envOf t terms′ els seen) ls) ≡ gather n f (turn (envOf t terms els seen) (word t (p + 1)) (defines (word t (p + 2)) (termOn t p)) ls)
-  unfolding turn
-  term-goes terms′ b l e = rw (e, ← b, term-added l)
+  -- a line that is refused ends the walk
+  pub turn-refused : (r : Turn) → asTurn r ≡ refused 6 (word t p) → true ≡ fault → Turned t p terms els seen r terms els seen
+  unfolding walk
+  turn-refused r e b = record { goes = λ ls. rw (e, ← b); counts = rw e }
 
-  element-added : u < length els → add (envOf t terms els seen) (collects (word t (p + 2)) (elementOn t p)) ≡ envOf t terms (set els u (p + 1)) seen
-  unfolding add envOf
-  element-added l = rw (← eu, elements-entered t els u p l)
+  pub term-turned : roleOf (word t (p + 2)) ≡ role.Term → (u : ℕ) (terms′ : List ℕ) → false ≡ fault → u ≡ word t (p + 2 + 1) → u < length terms → terms′ ≡ set terms u (p + 2 + 1)
+      → Turned t p terms els seen turn.Goes terms′ els seen
+  unfolding walk add envOf
+  term-turned r u terms′ b eu l e =
+      let d = rw r at (role-does t (p + 2)) in
+      record { goes = λ ls. rw (← b, e, terms-entered t (p + 2) terms u l, d .1, eu); counts = refl }
 
-  pub element-goes : (els′ : List ℕ) → false ≡ faulty (envOf t terms els seen) (collects (word t (p + 2)) (elementOn t p))
-      → u < length els → els′ ≡ set els u (p + 1)
-      → gather n f (walk (envOf t terms els′ seen) ls) ≡ gather n f (turn (envOf t terms els seen) (word t (p + 1)) (collects (word t (p + 2)) (elementOn t p)) ls)
-  unfolding turn
-  element-goes els′ b l e = rw (e, ← b, element-added l)
+  pub element-turned : roleOf (word t (p + 2)) ≡ role.Element → (v : ℕ) (els′ : List ℕ) → false ≡ fault → v ≡ word t (p + 2 + 1) → v < length els → els′ ≡ set els v (p + 2 + 1)
+      → Turned t p terms els seen turn.Goes terms els′ seen
+  unfolding walk add envOf
+  element-turned r v els′ b ev l e =
+      let d = rw r at (role-does t (p + 2)) in
+      record { goes = λ ls. rw (← b, e, elements-entered t (p + 2) els v l, d .1, ev); counts = refl }
+
+  pub other-turned : roleOf (word t (p + 2)) ≡ role.Other → Turned t p terms els seen turn.Goes terms els seen
+  unfolding walk add faulty
+  other-turned r = let d = rw r at (role-does t (p + 2)) in record { goes = λ ls. rw d; counts = refl }
 
 -- ---- a difference uses nothing that is unknown
 
@@ -124,71 +107,101 @@ record Parts (b c : Bool) (p : Option Pair) (q : Option ℤ) : Type 0 where
   pair-is : defined p ≡ true
   bound-is : defined q ≡ true
 
-never : (d : Diff) → none ≡ some d → ⊥
-never d e = let z : _≡_ {A = ℕ} 0 1 = (cc) in omega arith
-
 parts : (d : Diff) (b c : Bool) (p : Option Pair) (q : Option ℤ) → pick b (pick c (joined p q) none) none ≡ some d → Parts b c p q
 parts d true true (some p) (some k) h = record { name-is = refl; guard-is = refl; pair-is = refl; bound-is = refl }
-parts d true true (some p) none h = absurd (never d h)
-parts d true true none q h = absurd (never d h)
-parts d true false p q h = absurd (never d h)
-parts d false c p q h = absurd (never d h)
+parts d true true (some p) none h = absurd (never h)
+parts d true true none q h = absurd (never h)
+parts d true false p q h = absurd (never h)
+parts d false c p q h = absurd (never h)
 
-pub all-known : (look : ℕ → Option Term) (els : ℕ → Option Element) (p : ℕ) (vs : List ℕ) (g : Guard) (d : Diff)
+all-known : (look : ℕ → Option Term) (els : ℕ → Option Element) (p : ℕ) (vs : List ℕ) (g : Guard) (d : Diff)
     → differenceOf look els p vs g ≡ some d → defined (look p) && (allDefined els vs && guardUses look g) ≡ true
 unfolding differenceOf allDefined
-all-known look els p [] g d h = absurd (never d h)
-all-known look els p (v ∷ w ∷ vs) g d h = absurd (never d h)
-all-known look els p (v ∷ []) unguarded d h = absurd (never d h)
+all-known look els p [] g d h = absurd (never h)
+all-known look els p (v ∷ w ∷ vs) g d h = absurd (never h)
+all-known look els p (v ∷ []) unguarded d h = absurd (never h)
 all-known look els p (v ∷ []) (guard g u) d h =
     let q = parts d (isString diffWord (look p)) (isString atMost (look g)) (pairIn look (els v)) (boundOf look (look u)) h in
     rw (string-defined diffWord (look p) (q .name-is), pair-there look (els v) (q .pair-is), string-defined atMost (look g) (q .guard-is), bound-defined look (look u) (q .bound-is))
 
+-- ---- how many atoms are entered: each difference enters one, so there are at most as many as there are atoms
+
+entered-le : (l : List ℕ) → entered l ≤ length l
+unfolding entered
+entered-le [] = omega arith
+entered-le (x ∷ l) = go (eqb x 0) (entered-le l)
+  where
+    go : (b : Bool) → entered l ≤ length l → pick b 0 1 + entered l ≤ suc (length l)
+    go true h = omega arith
+    go false h = omega arith
+
+entered-set : (l : List ℕ) (i m : ℕ) → i < length l → getD l i 0 ≡ 0 → (m ≡ 0 → ⊥) → entered (set l i m) ≡ entered l + 1
+unfolding entered
+entered-set [] i m h e z = absurd (omega arith)
+entered-set (x ∷ l) zero m h e z = rw (ne-eqb m 0 z, eq-eqb x 0 e) (omega arith)
+entered-set (x ∷ l) (suc i) m h e z = omega (arith, entered-set l i m (omega arith) e z)
+
+pub entered-none : (l : List ℕ) → AllZero l → 0 ≡ entered l
+unfolding entered word
+entered-none [] b = refl
+entered-none (x ∷ l) b =
+    let e : x ≡ 0 = b .zero-at 0 in
+    rw (eq-eqb x 0 e) (omega (arith, entered-none l (record { zero-at = λ i. b .zero-at (suc i) })))
+
 -- ---- a theory atom's turn
 
-module _ (t terms els seen : List ℕ) (p : ℕ) where
-  -- what the line at p states, as it stands on the tape
-  abbrev atomOn : Part
-  atomOn = states (word t (p + 2)) (word t (p + 3)) (wordsAt t (p + 5) (word t (p + 4))) (guardOn t p)
-
-  pub atom-second : (a e : ℕ) → a ≡ word t (p + 2) → e ≡ word seen a → (e ≡ 0 → ⊥) → true ≡ faulty (envOf t terms els seen) atomOn
+module _ (t terms els seen : List ℕ) (p : ℕ) (r : roleOf (word t (p + 2)) ≡ role.Atom) where
+  pub atom-second : (a e : ℕ) → a ≡ word t (p + 2 + 1) → e ≡ word seen a → (e ≡ 0 → ⊥) → true ≡ fault t terms els seen p
   unfolding faulty envOf takenIn
-  atom-second a e ea ee z = rw (← ea, ← ee, ne-eqb e 0 z) (simp or-true)
+  atom-second a e ea ee z = let d = rw r at (role-does t (p + 2)) in rw (d .1, ← ea, ← ee, ne-eqb e 0 z) (simp or-true)
 
-  pub atom-none : none ≡ statedOn t terms els p → true ≡ faulty (envOf t terms els seen) atomOn
+  pub atom-none : none ≡ statedOn t terms els (p + 2) → true ≡ fault t terms els seen p
   unfolding faulty envOf statedOn
-  atom-none z = rw (← z) (simp or-true)
+  atom-none z = let d = rw r at (role-does t (p + 2)) in rw (d .1, ← (rw (d .1) at z)) (simp or-true)
 
-  pub atom-fine : (a e : ℕ) (d : Diff) → a ≡ word t (p + 2) → e ≡ word seen a → e ≡ 0 → some d ≡ statedOn t terms els p → false ≡ faulty (envOf t terms els seen) atomOn
-  unfolding faulty envOf takenIn statedOn
-  atom-fine a e d ea ee z fd =
-      let w : word seen (word t (p + 2)) ≡ 0 = rw (← ea) (sym ee ∙ z) in
-      let kn = all-known (lookIn t terms) (elementsIn t els) (word t (p + 3)) (wordsAt t (p + 5) (word t (p + 4))) (guardOn t p) d (sym fd) in
-      rw (kn, w, ← fd)
-
-  pub atom-goes : (n : ℕ) (f : ℕ → Stated) (ls : List Line) (a : ℕ) (d : Diff) (seen′ : List ℕ) → a ≡ word t (p + 2) → some d ≡ statedOn t terms els p
-      → false ≡ faulty (envOf t terms els seen) atomOn → a < length seen → seen′ ≡ set seen a (p + 1)
-      → gather n f (more (some (record { atom = a; says = d })) (walk (envOf t terms els seen′) ls)) ≡ gather n f (turn (envOf t terms els seen) (word t (p + 1)) atomOn ls)
-  unfolding turn add envOf statedOn
-  atom-goes n f ls a d seen′ ea fd b l e = rw (← b, ← fd, e, seen-entered seen a p l, ea)
+  pub atom-turned : (x : Turn) (a e : ℕ) (f : Diff) (seen′ : List ℕ)
+      → a ≡ word t (p + 2 + 1) → e ≡ word seen a → e ≡ 0 → some f ≡ statedOn t terms els (p + 2) → a < length seen → seen′ ≡ set seen a (p + 2 + 1)
+      → asTurn x ≡ got (some (record { atom = a; says = f }))
+      → Turned t p terms els seen x terms els seen′
+  unfolding faulty walk add envOf takenIn statedOn word
+  atom-turned x a e f seen′ ea ee z fd l es ex =
+      let d = rw r at (role-does t (p + 2)) in
+      let g = rw (d .1) at fd in
+      let w : word seen (word t (p + 2 + 1)) ≡ 0 = rw (← ea) (sym ee ∙ z) in
+      let kn = all-known (lookIn t terms) (elementsIn t els) _ _ (d .0) f (sym g) in
+      record {
+        goes = λ ls. rw (ex, es, seen-entered seen a (p + 2) l, d .1, kn, w, ← g, ea);
+        counts = rw (ex, es, entered-set seen a (p + 2 + 1) l (sym ee ∙ z) (λ o. omega arith));
+      }
 
 -- ---- the differences stored
 
 pub gather-none : (f : ℕ → Stated) (r : Answer (List Stated)) → gather 0 f r ≡ r
-unfolding gather firsts
+unfolding gather tabulated
 gather-none f (got ds) = refl
 gather-none f (refused k p) = refl
 
-pub firsts-same : {A : Type 0} (n : ℕ) (f g : ℕ → A) → ((i : ℕ) → i < n → f i ≡ g i) → firsts n f ≡ firsts n g
-unfolding firsts
-firsts-same zero f g h = refl
-firsts-same (suc n) f g h = rw (firsts-same n f g (λ i l. h i (omega arith)), h n (omega arith))
+pub tabulated-same : {A : Type 0} (n : ℕ) (f g : ℕ → A) → ((i : ℕ) → i < n → f i ≡ g i) → tabulated n f ≡ tabulated n g
+unfolding tabulated
+tabulated-same zero f g h = refl
+tabulated-same (suc n) f g h = rw (tabulated-same n f g (λ i l. h i (omega arith)), h n (omega arith))
 
 gather-more : (n : ℕ) (f g : ℕ → Stated) (d : Stated) → ((i : ℕ) → i < n → g i ≡ f i) → g n ≡ d
     → (r : Answer (List Stated)) → gather (n + 1) g r ≡ gather n f (more (some d) r)
-unfolding gather firsts
-gather-more n f g d h e (got ds) = rw (add-one n, e, firsts-same n g f h, append-assoc)
+unfolding gather tabulated
+gather-more n f g d h e (got ds) = rw (add-one n, e, tabulated-same n g f h, append-assoc)
 gather-more n f g d h e (refused k p) = refl
+
+module _ (s : Turn) (n : ℕ) (f : ℕ → Stated) where
+  pub stored-none : s ≡ turn.Goes → Stored s n f (Good n) f
+  stored-none e = rw e (record { goes = λ a. refl; counts = refl })
+
+  pub stored-refused : (r : Refusal) → s ≡ turn.Refused r → Stored s n f (Refused r) f
+  unfolding gather
+  stored-refused r e = rw e (record { goes = λ a. refl; counts = refl })
+
+  stored-more : (g : ℕ → Stated) (d : Stated) → asTurn s ≡ got (some d) → ((i : ℕ) → i < n → g i ≡ f i) → g n ≡ d → Stored s n f (Good (n + 1)) g
+  stored-more g d e h q = record { goes = λ a. rw e (gather-more n f g d h q a); counts = rw e }
 
 module _ (atoms xs ys : List ℕ) (ks : List ℤ) (n a x y : ℕ) (k : ℤ)
     (ha : n < length atoms) (hx : n < length xs) (hy : n < length ys) (hk : n < length ks) where
@@ -202,60 +215,13 @@ module _ (atoms xs ys : List ℕ) (ks : List ℤ) (n a x y : ℕ) (k : ℤ)
   unfolding word
   at-n = rw (getD-set-same atoms n a 0 ha, getD-set-same xs n x 0 hx, getD-set-same ys n y 0 hy, getD-set-same ks n k (pos 0) hk)
 
-  pub gather-stored : (r : Answer (List Stated))
-      → gather (n + 1) (heldAt (set atoms n a) (set xs n x) (set ys n y) (set ks n k)) r
-      ≡ gather n (heldAt atoms xs ys ks) (more (some (record { atom = a; says = record { x = x; y = y; k = k } })) r)
-  gather-stored r = gather-more n (heldAt atoms xs ys ks) (heldAt (set atoms n a) (set xs n x) (set ys n y) (set ks n k)) _ before-n at-n r
-
--- ---- how many atoms are entered: each difference enters one, so there are at most as many as there are atoms
-
-marks-le : (l : List ℕ) → marks l ≤ length l
-unfolding marks
-marks-le [] = omega arith
-marks-le (x ∷ l) = go (eqb x 0) (marks-le l)
-  where
-    go : (b : Bool) → marks l ≤ length l → pick b 0 1 + marks l ≤ suc (length l)
-    go true h = omega arith
-    go false h = omega arith
-
-marks-set : (l : List ℕ) (i m : ℕ) → i < length l → getD l i 0 ≡ 0 → (m ≡ 0 → ⊥) → marks (set l i m) ≡ marks l + 1
-unfolding marks
-marks-set [] i m h e z = absurd (omega arith)
-marks-set (x ∷ l) zero m h e z = rw (ne-eqb m 0 z, eq-eqb x 0 e) (omega arith)
-marks-set (x ∷ l) (suc i) m h e z = omega (arith, marks-set l i m (omega arith) e z)
-
-module _ (l : List ℕ) (i e : ℕ) (h : i < length l) (ee : e ≡ word l i) (z : e ≡ 0) where
-  pub marks-put : (l′ : List ℕ) (p : ℕ) → l′ ≡ set l i (p + 1) → marks l′ ≡ marks l + 1
-  unfolding word
-  marks-put l′ p q = rw q (marks-set l i (p + 1) h (sym ee ∙ z) (λ o. omega arith))
-
-  pub marks-room : marks l < length l
-  unfolding word
-  marks-room = omega (arith, marks-le (set l i 1), length-set l i 1, marks-set l i 1 h (sym ee ∙ z) (λ o. omega arith))
-
-blank-tail : (x : ℕ) (l : List ℕ) → Blank (x ∷ l) → Blank l
-unfolding word
-blank-tail x l b = record { zero-at = λ i. b .zero-at (suc i) }
-
-pub marks-blank : (l : List ℕ) → Blank l → 0 ≡ marks l
-unfolding marks word
-marks-blank [] b = refl
-marks-blank (x ∷ l) b = let e : x ≡ 0 = b .zero-at 0 in rw (eq-eqb x 0 e) (omega (arith, marks-blank l (blank-tail x l b)))
+  pub stored-one : (s : Turn) → asTurn s ≡ got (some (record { atom = a; says = record { x = x; y = y; k = k } }))
+      → Stored s n (heldAt atoms xs ys ks) (Good (n + 1)) (heldAt (set atoms n a) (set xs n x) (set ys n y) (set ks n k))
+  stored-one s e = stored-more s n (heldAt atoms xs ys ks) _ _ e before-n at-n
 
 -- there is room for one more
-pub room-left : (terms els seen atoms xs ys : List ℕ) (ks : List ℤ) (n t2 a e : ℕ) → Room terms els seen atoms xs ys ks n → t2 < 4097 → a ≡ t2 → e ≡ word seen a → e ≡ 0 → n < 4097
-room-left terms els seen atoms xs ys ks n t2 a e r l ea ee z = omega (arith, r .counted, r .for-seen, marks-room seen a e (omega (arith, r .for-seen)) ee z)
-
--- a difference stored and its atom entered
-pub atom-stored : (ls : List Line) (t terms els seen : List ℕ) (p : ℕ) (atoms xs ys : List ℕ) (ks : List ℤ) (n a e x y : ℕ) (k k′ : ℤ) (seen′ : List ℕ)
-    → Room terms els seen atoms xs ys ks n → word t (p + 2) < 4097
-    → a ≡ word t (p + 2) → e ≡ word seen a → e ≡ 0 → some (record { x = x; y = y; k = k }) ≡ statedOn t terms els p
-    → seen′ ≡ set seen a (p + 1) → k′ ≡ k
-    → gather (n + 1) (heldAt (set atoms n a) (set xs n x) (set ys n y) (set ks n k′)) (walk (envOf t terms els seen′) ls)
-    ≡ gather n (heldAt atoms xs ys ks) (turn (envOf t terms els seen) (word t (p + 1)) (states (word t (p + 2)) (word t (p + 3)) (wordsAt t (p + 5) (word t (p + 4))) (guardOn t p)) ls)
-atom-stored ls t terms els seen p atoms xs ys ks n a e x y k k′ seen′ r small ea ee z fd q ck =
-    let w : n < 4097 = room-left terms els seen atoms xs ys ks n _ a e r small ea ee z in
-    let l : a < length seen = omega (arith, r .for-seen) in
-    let g : some (record { x = x; y = y; k = k′ }) ≡ statedOn t terms els p = rw ck fd in
-    gather-stored atoms xs ys ks n a x y k′ (omega (arith, r .for-atoms)) (omega (arith, r .for-xs)) (omega (arith, r .for-ys)) (omega (arith, r .for-ks)) (walk (envOf t terms els seen′) ls)
-    ∙ atom-goes t terms els seen p n (heldAt atoms xs ys ks) ls a (record { x = x; y = y; k = k′ }) seen′ ea g (atom-fine t terms els seen p a e (record { x = x; y = y; k = k′ }) ea ee z g) l q
+pub room-left : {t : List ℕ} {p : ℕ} {terms els seen terms′ els′ seen′ : List ℕ} (s : Turn) (n : ℕ)
+    → Turned t p terms els seen s terms′ els′ seen′ → n ≡ entered seen → length seen′ ≡ atomPlaces → RoomFor s n
+room-left turn.Goes n h e l = tt
+room-left {seen = seen} {seen′ = seen′} (turn.States a x y k) n h e l = let c : entered seen + 1 ≡ entered seen′ = cc (h .counts) in omega (arith, entered-le seen′)
+room-left (turn.Refused r) n h e l = tt

@@ -1,54 +1,45 @@
--- What lines use, and whether a term's or an element's line is faulty: one law for each way out of the code.
+-- What statements use, and whether one that defines a term or collects an element is faulty: one law for each way out of the code.
 use Prim.Native.Nat.{ℕ, zero, suc, _+_, _-_, _/_, _≤_, _<_}
-use mathlib.Core.Path.{_≡_, refl, sym, _∙_}
+use mathlib.Core.Path.{_≡_, refl, sym, ap, _∙_}
 use mathlib.Core.List.{List}
 use mathlib.Core.Bool.{Bool, true, false, _&&_, _||_, not}
-use mathlib.Core.Option.{Option}
+use mathlib.Core.Option.{Option, some, none}
 use native.Mathlib.Omega.{arith}
 use borrow.Author.Tests.{eq-eqb, ne-eqb}
 use lib.Dec.{eqb}
 use lib.IntN.{ℤ, pos, negsuc}
+use Rattle.aspif.specs.Statements.{Term, Theory, defines, collects, states, theoryIn}
 use Rattle.aspif.specs.Grammar.{integerOf}
-use Rattle.aspif.specs.Words.{word}
-use Rattle.terms.specs.Says.{Term, defines, collects}
-use Rattle.terms.specs.Terms.{defined, allDefined, functorKnown, faulty}
-use Rattle.terms.specs.Tables.{wordsAt, isTerm, termOn, elementOn, lookIn, elementsIn, envOf}
-use Rattle.terms.proofs.Signs.{term-half}
-use Rattle.terms.proofs.OnTape.{term-number, term-string, term-compound, entry-there, element-there}
+use Rattle.aspif.specs.inner.Words.{compoundKind, word, wordsFrom, saysAt}
 use Rattle.aspif.proofs.Walking.{first-word}
-
-module _ (t terms : List ℕ) (u e : ℕ) (ee : e ≡ word terms u) where
-  pub there : not (eqb e 0) ≡ defined (lookIn t terms u)
-  unfolding lookIn
-  there = entry-there t e ∙ rw ee
-
-  pub known-is : (e ≡ 0 → ⊥) → defined (lookIn t terms u) ≡ true
-  known-is z = sym there ∙ rw (ne-eqb e 0 z)
-
-  pub unknown-is : e ≡ 0 → defined (lookIn t terms u) ≡ false
-  unknown-is z = sym there ∙ rw (eq-eqb e 0 z)
+use Rattle.terms.specs.Terms.{defined, allDefined, functorKnown, termUses, faulty}
+use Rattle.terms.specs.inner.Tables.{roleOf, isTerm, lookIn, elementOn, elementsIn, envOf}
+use Rattle.terms.specs.declared.lines.Role.the-variants as role
+use Rattle.terms.proofs.Signs.{term-half}
+use Rattle.terms.proofs.ByKind.{by-kind, compound-says, role-does}
+use Rattle.terms.proofs.Reading.{known-if, collected-if}
 
 -- ---- the terms of a list
 
 module _ (t terms : List ℕ) (q : ℕ) where
-  pub all-none : (left : ℕ) → left ≤ 0 → true ≡ allDefined (lookIn t terms) (wordsAt t q left)
-  unfolding allDefined wordsAt
+  pub all-none : (left : ℕ) → left ≤ 0 → true ≡ allDefined (lookIn t terms) (wordsFrom t q left)
+  unfolding allDefined wordsFrom
   all-none left h = let e : left ≡ 0 = omega arith in rw e
 
   module _ (left u e : ℕ) (h : 0 < left) (eu : u ≡ word t (q + 0)) (ee : e ≡ word terms u) where
-    all-step : defined (lookIn t terms u) && allDefined (lookIn t terms) (wordsAt t (q + 1) (left - 1)) ≡ allDefined (lookIn t terms) (wordsAt t q left)
-    unfolding allDefined wordsAt
-    all-step = go left h
+    all-step : not (eqb e 0) && allDefined (lookIn t terms) (wordsFrom t (q + 1) (left - 1)) ≡ allDefined (lookIn t terms) (wordsFrom t q left)
+    unfolding allDefined wordsFrom
+    all-step = rw (known-if t terms u e ee) (go left h)
       where
-        go : (left : ℕ) → 0 < left → defined (lookIn t terms u) && allDefined (lookIn t terms) (wordsAt t (q + 1) (left - 1)) ≡ allDefined (lookIn t terms) (wordsAt t q left)
+        go : (left : ℕ) → 0 < left → defined (lookIn t terms u) && allDefined (lookIn t terms) (wordsFrom t (q + 1) (left - 1)) ≡ allDefined (lookIn t terms) (wordsFrom t q left)
         go zero h = absurd (omega arith)
         go (suc k) h = let d : suc k - 1 ≡ k = omega arith in rw (d, first-word t q u eu)
 
-    pub all-out : e ≡ 0 → false ≡ allDefined (lookIn t terms) (wordsAt t q left)
-    all-out z = rw (unknown-is t terms u e ee z) at all-step
+    pub all-out : e ≡ 0 → false ≡ allDefined (lookIn t terms) (wordsFrom t q left)
+    all-out z = rw (eq-eqb e 0 z) at all-step
 
-    pub all-on : (e ≡ 0 → ⊥) → allDefined (lookIn t terms) (wordsAt t (q + 1) (left - 1)) ≡ allDefined (lookIn t terms) (wordsAt t q left)
-    all-on z = rw (known-is t terms u e ee z) at all-step
+    pub all-on : (e ≡ 0 → ⊥) → allDefined (lookIn t terms) (wordsFrom t (q + 1) (left - 1)) ≡ allDefined (lookIn t terms) (wordsFrom t q left)
+    all-on z = rw (ne-eqb e 0 z) at all-step
 
 -- ---- a compound's t
 
@@ -61,52 +52,61 @@ module _ (t terms : List ℕ) (f : ℕ) (b : Bool) (eb : b ≡ isTerm (integerOf
   functor-none h = no-functor (lookIn t terms) (integerOf f) (sym eb ∙ h)
 
   pub functor-is : (e : ℕ) → b ≡ true → e ≡ word terms (f / 2) → not (eqb e 0) ≡ functorKnown (lookIn t terms) (integerOf f)
-  functor-is e h ee = rw (term-half f (sym eb ∙ h)) (there t terms (f / 2) e ee)
+  functor-is e h ee = rw (term-half f (sym eb ∙ h)) (known-if t terms (f / 2) e ee)
 
--- ---- a term's line
+-- ---- a term
 
 or-false : (b : Bool) → b || (false || false) ≡ b
 or-false true = refl
 or-false false = refl
 
-module _ (t terms els seen : List ℕ) (p u e : ℕ) (eu : u ≡ word t (p + 2)) (ee : e ≡ word terms u) where
-  pub term-twice : (e ≡ 0 → ⊥) → true ≡ faulty (envOf t terms els seen) (defines (word t (p + 2)) (termOn t p))
+-- a term that a statement defines uses what is known
+abbrev Fair : (ℕ → Option Term) → Option Theory → Type 0
+Fair look (some (defines u x)) = termUses look x ≡ true
+Fair look (some (collects v e)) = Unit {0}
+Fair look (some (states a p vs g)) = Unit {0}
+Fair look none = Unit {0}
+
+module _ (t terms els seen : List ℕ) (q : ℕ) (r : roleOf (word t q) ≡ role.Term) (u e : ℕ) (eu : u ≡ word t (q + 1)) (ee : e ≡ word terms u) where
+  abbrev TermIs : Bool → Type 0
+  TermIs b = b ≡ faulty (envOf t terms els seen) (theoryIn (saysAt t q))
+
+  term-step : (x : Term) → theoryIn (saysAt t q) ≡ some (defines (word t (q + 1)) x) → TermIs (not (eqb e 0) || not (termUses (lookIn t terms) x))
   unfolding faulty envOf
-  term-twice z = rw (← eu, known-is t terms u e ee z)
+  term-step x d = rw (d, ← eu, known-if t terms u e ee) (ap (λ (b : Bool). defined (lookIn t terms u) || b) (sym (or-false _)))
 
-  module _ (z : e ≡ 0) (k : ℕ) (ek : k ≡ word t (p + 0)) where
-    pub number-fine : k ≡ 90 → false ≡ faulty (envOf t terms els seen) (defines (word t (p + 2)) (termOn t p))
-    unfolding faulty envOf
-    number-fine h = rw (← eu, unknown-is t terms u e ee z, term-number t p k ek h)
+  pub term-twice : (e ≡ 0 → ⊥) → TermIs true
+  term-twice z = let d = rw r at (role-does t q) in rw (ne-eqb e 0 z) at (term-step (d .0) (d .1))
 
-    pub string-fine : k ≡ 91 → false ≡ faulty (envOf t terms els seen) (defines (word t (p + 2)) (termOn t p))
-    unfolding faulty envOf
-    string-fine h = rw (← eu, unknown-is t terms u e ee z, term-string t p k ek h)
+  module _ (z : e ≡ 0) (k : ℕ) (ek : k ≡ word t (q + 0)) where
+    pub term-fine : (k ≡ compoundKind → ⊥) → TermIs false
+    term-fine o =
+        let d = rw r at (role-does t q) in
+        let f = by-kind t q (Fair (lookIn t terms)) (λ h. refl) (λ h. refl) (λ h. absurd (o (sym (first-word t q k ek) ∙ h))) (λ h. tt) (λ h. tt) (λ h. tt) (λ h. tt) in
+        rw (eq-eqb e 0 z, rw (d .1) at f) at (term-step (d .0) (d .1))
 
-    module _ (k0 : k ≡ 90 → ⊥) (k1 : k ≡ 91 → ⊥) (f : ℕ) (ef : f ≡ word t (p + 3)) (b : Bool) (eb : b ≡ functorKnown (lookIn t terms) (integerOf f)) where
-      term-step : not (b && allDefined (lookIn t terms) (wordsAt t (p + 5) (word t (p + 4)))) ≡ faulty (envOf t terms els seen) (defines (word t (p + 2)) (termOn t p))
-      unfolding faulty envOf
-      term-step = rw (← eu, unknown-is t terms u e ee z, term-compound t p k ek k0 k1, ← ef, ← eb) (sym (or-false _))
+    module _ (o : k ≡ compoundKind) (f : ℕ) (ef : f ≡ word t (q + 2)) (b : Bool) (eb : b ≡ functorKnown (lookIn t terms) (integerOf f)) where
+      compound-step : TermIs (not (b && allDefined (lookIn t terms) (wordsFrom t (q + 4) (word t (q + 3)))))
+      compound-step = rw (eb, ef) (rw (eq-eqb e 0 z) at (term-step _ (compound-says t q (first-word t q k ek ∙ o))))
 
-      pub term-functor : b ≡ false → true ≡ faulty (envOf t terms els seen) (defines (word t (p + 2)) (termOn t p))
-      term-functor h = rw h at term-step
+      pub term-functor : b ≡ false → TermIs true
+      term-functor h = rw h at compound-step
 
-      pub term-args : (n : ℕ) (a : Bool) → b ≡ true → n ≡ word t (p + 4) → a ≡ allDefined (lookIn t terms) (wordsAt t (p + 5) n)
-          → not a ≡ faulty (envOf t terms els seen) (defines (word t (p + 2)) (termOn t p))
-      term-args n a h en ea = rw (ea, en) (rw h at term-step)
+      pub term-args : (n : ℕ) (a : Bool) → b ≡ true → n ≡ word t (q + 3) → a ≡ allDefined (lookIn t terms) (wordsFrom t (q + 4) n) → TermIs (not a)
+      term-args n a h en ea = rw (ea, en) (rw h at compound-step)
 
--- ---- an element's line
+-- ---- an element
 
-module _ (t terms els seen : List ℕ) (p v e : ℕ) (ev : v ≡ word t (p + 2)) (ee : e ≡ word els v) where
-  here : not (eqb e 0) ≡ defined (elementsIn t els v)
-  unfolding elementsIn
-  here = element-there t e ∙ rw ee
+module _ (t terms els seen : List ℕ) (q : ℕ) (r : roleOf (word t q) ≡ role.Element) (v e : ℕ) (ev : v ≡ word t (q + 1)) (ee : e ≡ word els v) where
+  abbrev ElementIs : Bool → Type 0
+  ElementIs b = b ≡ faulty (envOf t terms els seen) (theoryIn (saysAt t q))
 
-  pub element-twice : (e ≡ 0 → ⊥) → true ≡ faulty (envOf t terms els seen) (collects (word t (p + 2)) (elementOn t p))
+  element-step : ElementIs (not (eqb e 0) || not (allDefined (lookIn t terms) (wordsFrom t (q + 3) (word t (q + 2)))))
   unfolding faulty envOf
-  element-twice z = rw (← ev, ← here, ne-eqb e 0 z)
+  element-step = let d = rw r at (role-does t q) in rw (d .1, ← ev, collected-if t els v e ee) (ap (λ (b : Bool). defined (elementsIn t els v) || b) (sym (or-false _)))
 
-  pub element-uses : (n : ℕ) (a : Bool) → e ≡ 0 → n ≡ word t (p + 3) → a ≡ allDefined (lookIn t terms) (wordsAt t (p + 4) n)
-      → not a ≡ faulty (envOf t terms els seen) (collects (word t (p + 2)) (elementOn t p))
-  unfolding faulty envOf elementOn
-  element-uses n a z en ea = rw (← ev, ← here, eq-eqb e 0 z, ← en, ← ea) (sym (or-false (not a)))
+  pub element-twice : (e ≡ 0 → ⊥) → ElementIs true
+  element-twice z = rw (ne-eqb e 0 z) at element-step
+
+  pub element-uses : (n : ℕ) (a : Bool) → e ≡ 0 → n ≡ word t (q + 2) → a ≡ allDefined (lookIn t terms) (wordsFrom t (q + 3) n) → ElementIs (not a)
+  element-uses n a z en ea = rw (ea, en) (rw (eq-eqb e 0 z) at element-step)

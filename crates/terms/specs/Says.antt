@@ -1,4 +1,4 @@
--- What difference atoms say, over the lines of a plan: document 01, 'Difference atoms' and 'Meaning'. Assumes nothing.
+-- Believed: what difference atoms say, over the lines of a plan: document 01, 'Difference atoms' and 'Meaning'. Assumes nothing.
 use mathlib.Core.Path.{_≡_}
 use mathlib.Core.Bool.{Bool, true, false, _||_}
 use mathlib.Core.List.{List, [], _∷_}
@@ -9,44 +9,8 @@ use lib.Dec.{eqb}
 use lib.IntN.{ℤ, pos, negℤ}
 use Rattle.basics.specs.Bools.{pick}
 use Rattle.basics.specs.Lists.{All, Some, Ascending, among}
-use Rattle.aspif.specs.Statements.{Literal, Head, empty, single, choice, Statement, rule, output, numeric, string, compound, element, theory, guarded, comment, Line}
+use Rattle.aspif.specs.Statements.{inHead, Term, num, str, comp, Element, elem, unguarded, guard, Theory, defines, collects, states, Line, Rule, ruleIn, theoryIn}
 use Rattle.diffs.specs.Diff.{Diff}
-
--- ---- what a line is to terms and theory atoms
-
--- what a term number stands for; a compound's t is a term number, or -1, -2, -3 (tuple, set, list)
-pub data Term : Type 0 where
-  num : ℤ → Term
-  str : (bytes : List ℕ) → Term
-  comp : (t : ℤ) → (arguments : List ℕ) → Term
-
--- what an element number stands for
-pub data Element : Type 0 where
-  elem : (terms : List ℕ) → (condition : List Literal) → Element
-
--- the operator and the bound of a theory atom, where it has them
-pub data Guard : Type 0 where
-  unguarded : Guard
-  guard : (operator bound : ℕ) → Guard
-
--- a line defines a term, or an element, or states a theory atom, or does none of these
-pub data Part : Type 0 where
-  defines : (term : ℕ) → Term → Part
-  collects : (element : ℕ) → Element → Part
-  states : (atom name : ℕ) → (elements : List ℕ) → Guard → Part
-  other : Part
-
--- what a statement does
-abbrev pub partOf : Statement → Part
-partOf (rule h b) = other
-partOf (output bs b) = other
-partOf (numeric u w) = defines u (num w)
-partOf (string u bs) = defines u (str bs)
-partOf (compound u t us) = defines u (comp t us)
-partOf (element v us b) = collects v (elem us b)
-partOf (theory a p vs) = states a p vs unguarded
-partOf (guarded a p vs g u) = states a p vs (guard g u)
-partOf (comment bs) = other
 
 -- ---- what the lines define
 
@@ -56,28 +20,28 @@ orElse (some a) b = some a
 orElse none b = b
 
 -- what one line says of the term u
-abbrev pub termIn : ℕ → Part → Option Term
-termIn u (defines v t) = pick (eqb u v) (some t) none
-termIn u (collects v e) = none
-termIn u (states a p vs g) = none
-termIn u other = none
+abbrev pub termIn : ℕ → Option Theory → Option Term
+termIn u (some (defines v t)) = pick (eqb u v) (some t) none
+termIn u (some (collects v e)) = none
+termIn u (some (states a p vs g)) = none
+termIn u none = none
 
 -- what the term number u stands for
 unfoldable pub term : List Line → ℕ → Option Term
 term [] u = none
-term (l ∷ ls) u = orElse (termIn u (partOf (l .says))) (term ls u)
+term (l ∷ ls) u = orElse (termIn u (theoryIn (l .says))) (term ls u)
 
 -- what one line says of the element w
-abbrev pub elementIn : ℕ → Part → Option Element
-elementIn w (defines u t) = none
-elementIn w (collects v e) = pick (eqb w v) (some e) none
-elementIn w (states a p vs g) = none
-elementIn w other = none
+abbrev pub elementIn : ℕ → Option Theory → Option Element
+elementIn w (some (defines u t)) = none
+elementIn w (some (collects v e)) = pick (eqb w v) (some e) none
+elementIn w (some (states a p vs g)) = none
+elementIn w none = none
 
 -- what the element number v stands for
 unfoldable pub elementAt : List Line → ℕ → Option Element
 elementAt [] v = none
-elementAt (l ∷ ls) v = orElse (elementIn v (partOf (l .says))) (elementAt ls v)
+elementAt (l ∷ ls) v = orElse (elementIn v (theoryIn (l .says))) (elementAt ls v)
 
 -- ---- differences
 
@@ -112,16 +76,16 @@ pub record Difference (ls : List Line) (p : ℕ) (vs : List ℕ) (g u : ℕ) (d 
   pub bound : Bound ls u (d .k)
 
 -- one line says that a is d
-abbrev pub SaysIn : List Line → ℕ → Diff → Part → Type 0
-SaysIn ls a d (defines u t) = ⊥
-SaysIn ls a d (collects v e) = ⊥
-SaysIn ls a d (states b p vs unguarded) = ⊥
-SaysIn ls a d (states b p vs (guard g u)) = (b ≡ a) × Difference ls p vs g u d
-SaysIn ls a d other = ⊥
+abbrev pub SaysIn : List Line → ℕ → Diff → Option Theory → Type 0
+SaysIn ls a d (some (defines u t)) = ⊥
+SaysIn ls a d (some (collects v e)) = ⊥
+SaysIn ls a d (some (states b p vs unguarded)) = ⊥
+SaysIn ls a d (some (states b p vs (guard g u))) = (b ≡ a) × Difference ls p vs g u d
+SaysIn ls a d none = ⊥
 
 -- the theory atom a says d. Numbers are looked up in the whole text: in one that 6 does not refuse, each is defined once and before its use
 abbrev pub Says : List Line → ℕ → Diff → Type 0
-Says ls a d = Some (λ (l : Line). SaysIn ls a d (partOf (l .says))) ls
+Says ls a d = Some (λ (l : Line). SaysIn ls a d (theoryIn (l .says))) ls
 
 -- ---- names
 
@@ -140,25 +104,12 @@ pub record Names (ls : List Line) (ns : List ℕ) : Type 0 where
 
 -- ---- heads
 
--- a stands in a head
-abbrev pub inHead : ℕ → Head → Bool
-inHead a empty = false
-inHead a (single b) = eqb a b
-inHead a (choice bs) = among a bs
-
--- a stands in the head of a statement
-abbrev pub heads : ℕ → Statement → Bool
-heads a (rule h b) = inHead a h
-heads a (output bs b) = false
-heads a (numeric u w) = false
-heads a (string u bs) = false
-heads a (compound u t us) = false
-heads a (element v us b) = false
-heads a (theory c p vs) = false
-heads a (guarded c p vs g u) = false
-heads a (comment bs) = false
+-- a stands in the head of a rule
+abbrev pub headIn : ℕ → Option Rule → Bool
+headIn a (some r) = inHead a (r .head)
+headIn a none = false
 
 -- a stands in the head of some rule, choice rules included
 unfoldable pub headed : List Line → ℕ → Bool
 headed [] a = false
-headed (l ∷ ls) a = heads a (l .says) || headed ls a
+headed (l ∷ ls) a = headIn a (ruleIn (l .says)) || headed ls a

@@ -1,5 +1,5 @@
--- Refusal 6: document 01, 'Difference atoms'. Lines are taken in order, each with what the lines before it define. It can be run. Assumes nothing.
-use Prim.Native.Nat.{ℕ, _<_}
+-- Believed: refusal 6: document 01, 'Difference atoms'. Lines are taken in order, each with what the lines before it define. It can be run. Assumes nothing.
+use Prim.Native.Nat.{ℕ}
 use mathlib.Core.Path.{_≡_}
 use mathlib.Core.List.{List, [], _∷_, _++_}
 use mathlib.Core.Bool.{Bool, true, false, _&&_, _||_, not}
@@ -9,24 +9,23 @@ use lib.IntN.{ℤ, pos, negsuc, negℤ}
 use Rattle.basics.specs.Bools.{pick}
 use Rattle.basics.specs.Lists.{Some}
 use Rattle.faults.specs.Answer.{Answer, got, refused, mapped}
-use Rattle.aspif.specs.Statements.{Line}
-use Rattle.aspif.specs.Words.{Between}
+use Rattle.aspif.specs.Statements.{Term, num, str, comp, Element, elem, Guard, unguarded, guard, Theory, defines, collects, states, Line, theoryIn}
 use Rattle.diffs.specs.Diff.{Diff}
-use Rattle.terms.specs.Says.{Term, num, str, comp, Element, elem, Guard, unguarded, guard, Part, defines, collects, states, other, partOf, term, elementAt, diffWord, minus, atMost, headed}
+use Rattle.terms.specs.Says.{term, elementAt, diffWord, minus, atMost, headed}
 
 -- ---- what lines have defined and stated
 
 -- the line states a theory atom of a
-abbrev pub statesIn : ℕ → Part → Bool
-statesIn a (defines u t) = false
-statesIn a (collects v e) = false
-statesIn a (states b p vs g) = eqb a b
-statesIn a other = false
+abbrev pub statesIn : ℕ → Option Theory → Bool
+statesIn a (some (defines u t)) = false
+statesIn a (some (collects v e)) = false
+statesIn a (some (states b p vs g)) = eqb a b
+statesIn a none = false
 
 -- the atom a has a theory atom statement
 unfoldable pub taken : List Line → ℕ → Bool
 taken [] a = false
-taken (l ∷ ls) a = statesIn a (partOf (l .says)) || taken ls a
+taken (l ∷ ls) a = statesIn a (theoryIn (l .says)) || taken ls a
 
 -- what lines say of each number
 pub record Env : Type 0 where
@@ -127,11 +126,11 @@ differenceOf look els p (v ∷ []) (guard g u) =
 -- ---- the four tests
 
 -- a term or element number is defined twice
-abbrev pub twice : Env → Part → Bool
-twice env (defines u t) = defined (env .terms u)
-twice env (collects v e) = defined (env .elements v)
-twice env (states a p vs g) = false
-twice env other = false
+abbrev pub twice : Env → Option Theory → Bool
+twice env (some (defines u t)) = defined (env .terms u)
+twice env (some (collects v e)) = defined (env .elements v)
+twice env (some (states a p vs g)) = false
+twice env none = false
 
 -- t is defined, where it is a term number
 abbrev pub functorKnown : (ℕ → Option Term) → ℤ → Bool
@@ -154,29 +153,29 @@ guardUses look unguarded = true
 guardUses look (guard g u) = defined (look g) && defined (look u)
 
 -- a term or element is used that no earlier line defines: t, arguments; an element's terms; p, elements, g, u
-abbrev pub undefinedUse : Env → Part → Bool
-undefinedUse env (defines u t) = not (termUses (env .terms) t)
-undefinedUse env (collects v e) = not (elementUses (env .terms) e)
-undefinedUse env (states a p vs g) =
+abbrev pub undefinedUse : Env → Option Theory → Bool
+undefinedUse env (some (defines u t)) = not (termUses (env .terms) t)
+undefinedUse env (some (collects v e)) = not (elementUses (env .terms) e)
+undefinedUse env (some (states a p vs g)) =
     not (defined (env .terms p) && (allDefined (env .elements) vs && guardUses (env .terms) g))
-undefinedUse env other = false
+undefinedUse env none = false
 
 -- an atom has a second theory atom statement
-abbrev pub second : Env → Part → Bool
-second env (defines u t) = false
-second env (collects v e) = false
-second env (states a p vs g) = env .taken a
-second env other = false
+abbrev pub second : Env → Option Theory → Bool
+second env (some (defines u t)) = false
+second env (some (collects v e)) = false
+second env (some (states a p vs g)) = env .taken a
+second env none = false
 
 -- a theory atom isn't a difference
-abbrev pub notDifference : Env → Part → Bool
-notDifference env (defines u t) = false
-notDifference env (collects v e) = false
-notDifference env (states a p vs g) = not (defined (differenceOf (env .terms) (env .elements) p vs g))
-notDifference env other = false
+abbrev pub notDifference : Env → Option Theory → Bool
+notDifference env (some (defines u t)) = false
+notDifference env (some (collects v e)) = false
+notDifference env (some (states a p vs g)) = not (defined (differenceOf (env .terms) (env .elements) p vs g))
+notDifference env none = false
 
 -- one of the four
-unfoldable pub faulty : Env → Part → Bool
+unfoldable pub faulty : Env → Option Theory → Bool
 faulty env s = twice env s || (undefinedUse env s || (second env s || notDifference env s))
 
 -- ---- the differences of a text
@@ -192,11 +191,11 @@ statedAs a (some d) = some (record { atom = a; says = d })
 statedAs a none = none
 
 -- the difference that a line states
-abbrev pub statedBy : Env → Part → Option Stated
-statedBy env (defines u t) = none
-statedBy env (collects v e) = none
-statedBy env (states a p vs g) = statedAs a (differenceOf (env .terms) (env .elements) p vs g)
-statedBy env other = none
+abbrev pub statedBy : Env → Option Theory → Option Stated
+statedBy env (some (defines u t)) = none
+statedBy env (some (collects v e)) = none
+statedBy env (some (states a p vs g)) = statedAs a (differenceOf (env .terms) (env .elements) p vs g)
+statedBy env none = none
 
 -- a difference in front of the others
 abbrev pub more : Option Stated → Answer (List Stated) → Answer (List Stated)
@@ -207,9 +206,9 @@ more none r = r
 unfoldable pub differencesFrom : (before ls : List Line) → Answer (List Stated)
 differencesFrom before [] = got []
 differencesFrom before (l ∷ ls) =
-    pick (faulty (known before) (partOf (l .says)))
+    pick (faulty (known before) (theoryIn (l .says)))
     (refused 6 (l .place))
-    (more (statedBy (known before) (partOf (l .says))) (differencesFrom (before ++ (l ∷ [])) ls))
+    (more (statedBy (known before) (theoryIn (l .says))) (differencesFrom (before ++ (l ∷ [])) ls))
 
 -- the differences that the lines state, in order; or 6 at the first line that is faulty
 unfoldable pub differences : List Line → Answer (List Stated)
@@ -218,12 +217,6 @@ differences ls = differencesFrom [] ls
 -- among these, a says d
 abbrev pub Lists : List Stated → ℕ → Diff → Type 0
 Lists ds a d = Some (λ (s : Stated). s ≡ record { atom = a; says = d }) ds
-
--- names below 1,024, and a bound from -1,000,000 to 1,000,000
-pub record SmallDiff (d : Diff) : Type 0 where
-  pub x-small : d .x < 1024
-  pub y-small : d .y < 1024
-  pub k-small : Between 1000000 1000000 (d .k)
 
 -- ---- external atoms
 

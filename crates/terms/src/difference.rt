@@ -1,14 +1,22 @@
 // The difference that a theory atom states.
 ghost use mathlib.Core.Path.{_≡_};
-ghost use Prim.Native.Nat.{_+_, _/_, _≤_, _<_};
+ghost use Prim.Native.Nat.{_+_, _≤_, _<_};
 ghost use lib.ListN.{length};
 ghost use lib.IntN.{pos, negℤ};
 ghost use Rattle.aspif.specs.Grammar.{integerOf};
 ghost use Rattle.terms.specs.Terms.{sameBytes, isString, isMinus, opposite, boundOf, pairOf, pairIn, joined};
-ghost use Rattle.terms.specs.Tables.{wordsAt, isTerm, termAt, elementOf, elementsIn, lookIn, statedOn};
-ghost use Rattle.terms.specs.Values.{asLimit, asSides, asSaid};
+ghost use Rattle.aspif.specs.inner.Words.{wordsFrom};
+ghost use Rattle.terms.specs.inner.Tables.{isTerm, minusOf, termOn, elementsIn, lookIn, statedOn};
+ghost use Rattle.terms.specs.inner.Values.{asLimit, asSides, asSaid};
 use crate::tables::element_entry;
 use crate::tables::term_entry;
+use aspif::kinds::COMPOUND;
+use aspif::kinds::ELEMENT;
+use aspif::kinds::GUARDED;
+use aspif::kinds::NUMBER;
+use aspif::kinds::STRING;
+use aspif::walk::element_at;
+use aspif::walk::term_at;
 use aspif::walk::word_at;
 use faults::ElementNo;
 use faults::TermNo;
@@ -31,10 +39,10 @@ pub enum Said {
     Not,
 }
 
-// Whether the n bytes of the string line at p are those wanted.
-fn same(tape: &[u32], p: usize, n: u32, wanted: &[u8]) -> bool
+// Whether the n bytes of the string at q are those wanted.
+fn same(tape: &[u32], q: usize, n: u32, wanted: &[u8]) -> bool
     requires { ⌜ length (now wanted) ≤ 8 ⌝ }
-    ensures { λ r. ⌜ r ≡ sameBytes (wordsAt (now (tape .entry)) (p + 4) n) (now (wanted .entry)) ⌝ }
+    ensures { λ r. ⌜ r ≡ sameBytes (wordsFrom (now (tape .entry)) (q + 3) n) (now (wanted .entry)) ⌝ }
 {
     let mut left = n;
     let mut i = 0;
@@ -42,8 +50,8 @@ fn same(tape: &[u32], p: usize, n: u32, wanted: &[u8]) -> bool
         if left == 0 {
             return false;
         }
-        let k = i + 4;
-        let b = word_at(tape, p, k);
+        let k = i + 3;
+        let b = word_at(tape, q, k);
         let w = wanted[i] as u32;
         if b != w {
             return false;
@@ -54,30 +62,22 @@ fn same(tape: &[u32], p: usize, n: u32, wanted: &[u8]) -> bool
     left == 0
 }
 
-// Whether an entry is that of the string wanted.
-fn is_string(tape: &[u32], e: usize, wanted: &[u8]) -> bool
-    requires { ⌜ length (now wanted) ≤ 8 ⌝ }
-    ensures { λ r. ⌜ r ≡ isString (now (wanted .entry)) (termAt (now (tape .entry)) e) ⌝ }
-{
-    if e == 0 {
-        return false;
-    }
-    let p = e - 1;
-    let kind = word_at(tape, p, 0);
-    if kind != 91 {
-        return false;
-    }
-    let n = word_at(tape, p, 3);
-    same(tape, p, n, wanted)
-}
-
-// Whether a term number is that of the string wanted.
+// Whether a term is the string wanted.
 fn named(tape: &[u32], terms: &[usize], u: TermNo, wanted: &[u8]) -> bool
     requires { ⌜ length (now wanted) ≤ 8 ⌝ }
     ensures { λ r. ⌜ r ≡ isString (now (wanted .entry)) (lookIn (now (tape .entry)) (now (terms .entry)) (u .0)) ⌝ }
 {
     let e = term_entry(terms, u);
-    is_string(tape, e, wanted)
+    if e == 0 {
+        return false;
+    }
+    let q = e - 1;
+    let kind = word_at(tape, q, 0);
+    if kind != STRING {
+        return false;
+    }
+    let n = word_at(tape, q, 2);
+    same(tape, q, n, wanted)
 }
 
 // Whether a compound's t is a term number.
@@ -135,98 +135,101 @@ fn negated(w: u32) -> i32
     0 - z
 }
 
-// The numeric term of an entry, negated.
-fn against(tape: &[u32], e: usize) -> Limit
-    ensures { λ r. ⌜ asLimit r ≡ opposite (termAt (now (tape .entry)) e) ⌝ }
+// A numeric term, negated.
+fn against(tape: &[u32], terms: &[usize], u: TermNo) -> Limit
+    ensures { λ r. ⌜ asLimit r ≡ opposite (lookIn (now (tape .entry)) (now (terms .entry)) (u .0)) ⌝ }
 {
+    let e = term_entry(terms, u);
     if e == 0 {
         return Limit::Not;
     }
-    let p = e - 1;
-    let kind = word_at(tape, p, 0);
-    if kind != 90 {
+    let q = e - 1;
+    let kind = word_at(tape, q, 0);
+    if kind != NUMBER {
         return Limit::Not;
     }
-    let w = word_at(tape, p, 3);
+    let w = word_at(tape, q, 2);
     Limit::Is(negated(w))
 }
 
-// The bound that the term of an entry gives.
-fn bound(tape: &[u32], terms: &[usize], e: usize) -> Limit
-    ensures { λ r. ⌜ asLimit r ≡ boundOf (lookIn (now (tape .entry)) (now (terms .entry))) (termAt (now (tape .entry)) e) ⌝ }
+// Whether the term of an entry is a compound of `-` with `count` arguments.
+fn minus_of(tape: &[u32], terms: &[usize], e: usize, count: u32) -> bool
+    ensures { λ r. ⌜ r ≡ minusOf (lookIn (now (tape .entry)) (now (terms .entry))) count (termOn (now (tape .entry)) e) ⌝ }
 {
+    if e == 0 {
+        return false;
+    }
+    let q = e - 1;
+    let kind = word_at(tape, q, 0);
+    if kind != COMPOUND {
+        return false;
+    }
+    let n = word_at(tape, q, 3);
+    if n != count {
+        return false;
+    }
+    let t = word_at(tape, q, 2);
+    is_minus(tape, terms, t)
+}
+
+// The bound that a term gives.
+fn bound(tape: &[u32], terms: &[usize], u: TermNo) -> Limit
+    ensures { λ r. ⌜ asLimit r ≡ boundOf (lookIn (now (tape .entry)) (now (terms .entry))) (lookIn (now (tape .entry)) (now (terms .entry)) (u .0)) ⌝ }
+{
+    let e = term_entry(terms, u);
     if e == 0 {
         return Limit::Not;
     }
-    let p = e - 1;
-    let kind = word_at(tape, p, 0);
-    if kind == 90 {
-        let w = word_at(tape, p, 3);
+    let q = e - 1;
+    let kind = word_at(tape, q, 0);
+    if kind == NUMBER {
+        let w = word_at(tape, q, 2);
         return Limit::Is(signed(w));
     }
-    if kind == 91 {
+    if !minus_of(tape, terms, e, 1) {
         return Limit::Not;
     }
-    let n = word_at(tape, p, 4);
-    if n != 1 {
-        return Limit::Not;
-    }
-    let t = word_at(tape, p, 3);
-    if is_minus(tape, terms, t) {
-        let u = word_at(tape, p, 5);
-        let d = term_entry(terms, TermNo(u));
-        return against(tape, d);
-    }
-    Limit::Not
+    let n = term_at(tape, q, 4);
+    against(tape, terms, n)
 }
 
-// The two sides that the term of an entry has.
-fn pair(tape: &[u32], terms: &[usize], e: usize) -> Sides
-    ensures { λ r. ⌜ asSides r ≡ pairOf (lookIn (now (tape .entry)) (now (terms .entry))) (termAt (now (tape .entry)) e) ⌝ }
+// The two sides that a term has.
+fn pair(tape: &[u32], terms: &[usize], u: TermNo) -> Sides
+    ensures { λ r. ⌜ asSides r ≡ pairOf (lookIn (now (tape .entry)) (now (terms .entry))) (lookIn (now (tape .entry)) (now (terms .entry)) (u .0)) ⌝ }
 {
+    let e = term_entry(terms, u);
+    if !minus_of(tape, terms, e, 2) {
+        return Sides::Not;
+    }
+    let q = e - 1;
+    let x = term_at(tape, q, 4);
+    let y = term_at(tape, q, 5);
+    Sides::Are(x, y)
+}
+
+// The two sides in an element.
+fn pair_in(tape: &[u32], terms: &[usize], elements: &[usize], v: ElementNo) -> Sides
+    ensures { λ r. ⌜ asSides r ≡ pairIn (lookIn (now (tape .entry)) (now (terms .entry))) (elementsIn (now (tape .entry)) (now (elements .entry)) (v .0)) ⌝ }
+{
+    let e = element_entry(elements, v);
     if e == 0 {
         return Sides::Not;
     }
-    let p = e - 1;
-    let kind = word_at(tape, p, 0);
-    if kind == 90 {
+    let q = e - 1;
+    let kind = word_at(tape, q, 0);
+    if kind != ELEMENT {
         return Sides::Not;
     }
-    if kind == 91 {
-        return Sides::Not;
-    }
-    let n = word_at(tape, p, 4);
-    if n != 2 {
-        return Sides::Not;
-    }
-    let t = word_at(tape, p, 3);
-    if is_minus(tape, terms, t) {
-        let x = word_at(tape, p, 5);
-        let y = word_at(tape, p, 6);
-        return Sides::Are(TermNo(x), TermNo(y));
-    }
-    Sides::Not
-}
-
-// The two sides in the element of an entry.
-fn pair_in(tape: &[u32], terms: &[usize], e: usize) -> Sides
-    ensures { λ r. ⌜ asSides r ≡ pairIn (lookIn (now (tape .entry)) (now (terms .entry))) (elementOf (now (tape .entry)) e) ⌝ }
-{
-    if e == 0 {
-        return Sides::Not;
-    }
-    let p = e - 1;
-    let n = word_at(tape, p, 3);
+    let n = word_at(tape, q, 2);
     if n != 1 {
         return Sides::Not;
     }
-    let m = word_at(tape, p, 5);
+    let m = word_at(tape, q, 4);
     if m != 0 {
         return Sides::Not;
     }
-    let w = word_at(tape, p, 4);
-    let d = term_entry(terms, TermNo(w));
-    pair(tape, terms, d)
+    let w = term_at(tape, q, 3);
+    pair(tape, terms, w)
 }
 
 // Two sides and a bound together.
@@ -246,34 +249,32 @@ fn join(s: Sides, l: Limit) -> Said
 fn inside(tape: &[u32], terms: &[usize], elements: &[usize], v: ElementNo, u: TermNo) -> Said
     ensures { λ r. ⌜ asSaid r ≡ joined (pairIn (lookIn (now (tape .entry)) (now (terms .entry))) (elementsIn (now (tape .entry)) (now (elements .entry)) (v .0))) (boundOf (lookIn (now (tape .entry)) (now (terms .entry))) (lookIn (now (tape .entry)) (now (terms .entry)) (u .0))) ⌝ }
 {
-    let e = element_entry(elements, v);
-    let s = pair_in(tape, terms, e);
-    let f = term_entry(terms, u);
-    let l = bound(tape, terms, f);
+    let s = pair_in(tape, terms, elements, v);
+    let l = bound(tape, terms, u);
     join(s, l)
 }
 
-// The difference that the theory atom at p states.
-pub fn difference(tape: &[u32], p: usize, terms: &[usize], elements: &[usize]) -> Said
-    ensures { λ r. ⌜ asSaid r ≡ statedOn (now (tape .entry)) (now (terms .entry)) (now (elements .entry)) p ⌝ }
+// The difference that the theory atom at q states.
+pub fn difference(tape: &[u32], q: usize, terms: &[usize], elements: &[usize]) -> Said
+    ensures { λ r. ⌜ asSaid r ≡ statedOn (now (tape .entry)) (now (terms .entry)) (now (elements .entry)) q ⌝ }
 {
-    let kind = word_at(tape, p, 0);
-    if kind == 95 {
+    let kind = word_at(tape, q, 0);
+    if kind != GUARDED {
         return Said::Not;
     }
-    let n = word_at(tape, p, 4);
+    let n = word_at(tape, q, 3);
     if n != 1 {
         return Said::Not;
     }
-    let name = word_at(tape, p, 3);
-    if named(tape, terms, TermNo(name), b"diff") {
-        let g = word_at(tape, p, 6);
-        if named(tape, terms, TermNo(g), b"<=") {
-            let v = word_at(tape, p, 5);
-            let u = word_at(tape, p, 7);
-            return inside(tape, terms, elements, ElementNo(v), TermNo(u));
-        }
+    let name = term_at(tape, q, 2);
+    if !named(tape, terms, name, b"diff") {
         return Said::Not;
     }
-    Said::Not
+    let g = term_at(tape, q, 5);
+    if !named(tape, terms, g, b"<=") {
+        return Said::Not;
+    }
+    let v = element_at(tape, q, 4);
+    let u = term_at(tape, q, 6);
+    inside(tape, terms, elements, v, u)
 }

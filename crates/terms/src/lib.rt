@@ -1,17 +1,47 @@
 // Terms and theory atoms: refusal 6, or what the difference atoms say.
 ghost use mathlib.Core.Path.{_≡_};
-ghost use Rattle.aspif.specs.Words.{linesOf, Taped};
+ghost use Rattle.aspif.specs.inner.Words.{linesOf};
+ghost use Rattle.aspif.specs.inner.Kept.{Ahead};
 ghost use Rattle.terms.specs.Terms.{differences};
-ghost use Rattle.terms.specs.Tables.{Blank, Room};
-ghost use Rattle.terms.specs.Values.{asDifferences, Roomy};
+ghost use Rattle.terms.specs.inner.Tables.{AllZero, heldAt};
+ghost use Rattle.terms.specs.inner.Values.{asDifferences, Roomy, Tables, RoomFor, Stored};
+use crate::lines::Turn;
 use crate::lines::take_line;
 use aspif::walk::after_at;
+use faults::ATOM_PLACES;
+use faults::ELEMENT_PLACES;
 use faults::Step;
+use faults::TERM_PLACES;
 
 mod difference;
 mod lines;
 pub mod marks;
 mod tables;
+
+// Stores the difference that a turn states behind n others.
+fn store(
+    s: Turn,
+    atoms: &mut [u32],
+    xs: &mut [u32],
+    ys: &mut [u32],
+    ks: &mut [i32],
+    n: usize,
+) -> Step
+    requires { ⌜ Roomy (now atoms) (now xs) (now ys) (now ks) × RoomFor s n ⌝ }
+    ensures { λ r. ⌜ Stored s n (heldAt (now (atoms .entry)) (now (xs .entry)) (now (ys .entry)) (now (ks .entry))) r (heldAt (now (atoms .exit)) (now (xs .exit)) (now (ys .exit)) (now (ks .exit))) ⌝ }
+{
+    match s {
+        Turn::Goes => Step::Good(n),
+        Turn::States(a, x, y, k) => {
+            atoms[n] = a.0;
+            xs[n] = x.0;
+            ys[n] = y.0;
+            ks[n] = k;
+            Step::Good(n + 1)
+        }
+        Turn::Refused(r) => Step::Refused(r),
+    }
+}
 
 // Takes the n lines of the tape in order; the tables are blank at first.
 fn take_all(
@@ -25,18 +55,19 @@ fn take_all(
     ys: &mut [u32],
     ks: &mut [i32],
 ) -> Step
-    requires { ⌜ Taped (now tape) n ⌝ }
-    requires { ⌜ Blank (now terms) × Blank (now elements) × Blank (now seen) ⌝ }
-    requires { ⌜ Room (now terms) (now elements) (now seen) (now atoms) (now xs) (now ys) (now ks) 0 ⌝ }
+    requires { ⌜ Ahead (now tape) 0 n ⌝ }
+    requires { ⌜ AllZero (now terms) × AllZero (now elements) × AllZero (now seen) ⌝ }
+    requires { ⌜ Tables (now terms) (now elements) (now seen) × Roomy (now atoms) (now xs) (now ys) (now ks) ⌝ }
     ensures { λ r. ⌜ asDifferences r (now (atoms .exit)) (now (xs .exit)) (now (ys .exit)) (now (ks .exit)) ≡ differences (linesOf (now (tape .entry)) n) ⌝ }
 {
     let mut p = 0;
     let mut left = n;
     let mut m = 0;
     while 0 < left {
-        let s = take_line(tape, p, terms, elements, seen, atoms, xs, ys, ks, m);
-        let Step::Good(more) = s else {
-            return s;
+        let s = take_line(tape, p, terms, elements, seen);
+        let r = store(s, atoms, xs, ys, ks, m);
+        let Step::Good(more) = r else {
+            return r;
         };
         m = more;
         p = after_at(tape, p);
@@ -54,13 +85,13 @@ pub fn collect(
     ys: &mut [u32],
     ks: &mut [i32],
 ) -> Step
-    requires { ⌜ Taped (now tape) n ⌝ }
+    requires { ⌜ Ahead (now tape) 0 n ⌝ }
     requires { ⌜ Roomy (now atoms) (now xs) (now ys) (now ks) ⌝ }
     ensures { λ r. ⌜ asDifferences r (now (atoms .exit)) (now (xs .exit)) (now (ys .exit)) (now (ks .exit)) ≡ differences (linesOf (now (tape .entry)) n) ⌝ }
 {
-    let mut terms = [0usize; 1024];
-    let mut elements = [0usize; 1024];
-    let mut seen = [0usize; 4097];
+    let mut terms = [0usize; TERM_PLACES];
+    let mut elements = [0usize; ELEMENT_PLACES];
+    let mut seen = [0usize; ATOM_PLACES];
     take_all(
         tape,
         n,

@@ -1,8 +1,8 @@
-// Tables by number: 0, or one more than the place on the tape of the line that defines the number.
+// Tables by number: 0, or one more than the place on the tape of the statement that defines the number.
 ghost use mathlib.Core.Path.{_≡_};
 ghost use Prim.Native.Nat.{_<_};
 ghost use lib.ListN.{length, set};
-ghost use Rattle.aspif.specs.Words.{word};
+ghost use Rattle.aspif.specs.inner.Words.{word};
 use faults::AtomNo;
 use faults::ElementNo;
 use faults::TermNo;

@@ -12,7 +12,7 @@ use Rattle.faults.specs.Values.{number}
 use Rattle.faults.specs.declared.Kind.{Kind}
 use Rattle.faults.specs.declared.Kind.the-variants.{Room, Long, Grammar, Carried, Bounds, Terms, Candidate, Broken, Unfounded, Cycle, Late, NotTable, NotNamed}
 use Rattle.faults.specs.declared.Refusal.{Refusal}
-use Rattle.timetable.specs.Table.{Record, shown, isTable}
+use Rattle.timetable.specs.Table.{Record, contentOf, isTable}
 use Rattle.timetable.specs.Times.{asTime, timeAmong, timeOf}
 use Rattle.timetable.specs.declared.Time.{Time}
 use Rattle.timetable.specs.declared.Time.the-variants.{At, Refused}
@@ -33,8 +33,8 @@ pub no-table-exactly : (s : List ℕ) (u : ℕ) → (timeOf s u ≡ refused 20 0
 unfolding timeOf
 no-table-exactly s u = (λ e. go (isTable s) e, λ h. rw h)
   where
-    go : (t : Bool) → pick t (timeAmong u (shown s .records)) (refused 20 0) ≡ refused 20 0 → t ≡ false
-    go true q = absurd (not-among u (shown s .records) q)
+    go : (t : Bool) → pick t (timeAmong u (contentOf s .records)) (refused 20 0) ≡ refused 20 0 → t ≡ false
+    go true q = absurd (not-among u (contentOf s .records) q)
     go false q = refl
 
 -- ---- one answer

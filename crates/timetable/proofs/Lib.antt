@@ -7,5 +7,4 @@ pub mod Writing
 pub mod Reading
 pub mod Content
 pub mod RoundTrip
-pub mod PlanP
 pub mod Answers

@@ -11,7 +11,7 @@ use lib.ListN.{length, getD, drop, length-drop, drop-of-length-le}
 use lib.Seq.{drop-cons}
 use Rattle.basics.specs.Bools.{pick}
 use Rattle.basics.specs.inner.Bitmaps.{marks, markedFrom}
-use Rattle.timetable.specs.Table.{ascending}
+use Rattle.timetable.specs.Table.{ascends}
 
 module _ (map : List ℕ) (i : ℕ) where
   pub marked-none : length map ≤ i → markedFrom i map ≡ []
@@ -41,20 +41,20 @@ pub few-marked : (map : List ℕ) (i : ℕ) → length (markedFrom i map) ≤ le
 unfolding markedFrom
 few-marked map i = omega (arith, few-marks i (drop i map), length-drop i map)
 
-marks-ascend : (i low high : ℕ) (bs : List ℕ) → low ≤ i → i + length bs ≤ high + 1 → ascending low high (marks i bs) ≡ true
-unfolding marks ascending
+marks-ascend : (i low high : ℕ) (bs : List ℕ) → low ≤ i → i + length bs ≤ high + 1 → ascends low high (marks i bs) ≡ true
+unfolding marks ascends
 marks-ascend i low high [] l h = refl
 marks-ascend i low high (b ∷ bs) l h =
     go (eqb b 1) (marks-ascend (i + 1) (i + 1) high bs (omega arith) (omega arith)) (marks-ascend (i + 1) low high bs (omega arith) (omega arith))
   where
-    go : (t : Bool) → ascending (i + 1) high (marks (i + 1) bs) ≡ true → ascending low high (marks (i + 1) bs) ≡ true
-        → ascending low high (pick t (i ∷ marks (i + 1) bs) (marks (i + 1) bs)) ≡ true
+    go : (t : Bool) → ascends (i + 1) high (marks (i + 1) bs) ≡ true → ascends low high (marks (i + 1) bs) ≡ true
+        → ascends low high (pick t (i ∷ marks (i + 1) bs) (marks (i + 1) bs)) ≡ true
     go true u v = rw (le-leb low i l, le-leb i high (omega arith)) u
     go false u v = v
 
 -- the marked numbers from low on ascend strictly, and none is above the last place
 pub marked-ascend : (map : List ℕ) (low high : ℕ) → length map ≡ high + 1 → low ≤ high + 1
-    → ascending low high (markedFrom low map) ≡ true
+    → ascends low high (markedFrom low map) ≡ true
 unfolding markedFrom
 marked-ascend map low high e l =
     marks-ascend low low high (drop low map) (omega arith) (omega (arith, length-drop low map))

@@ -7,27 +7,28 @@ use native.Mathlib.Omega.{arith}
 use borrow.Author.Tests.{eqb-true, eq-eqb, ne-eqb, le-leb, lt-leb}
 use lib.Dec.{eqb, leb}
 use lib.ListN.{length}
-use Rattle.faults.specs.Answer.{got, refused}
 use Rattle.basics.proofs.Bools.{and-cases}
+use Rattle.faults.specs.Answer.{got, refused}
+use Rattle.faults.specs.Limits.{lastAtom, lastTerm}
 use Rattle.timetable.specs.Word.{wordAt}
-use Rattle.timetable.specs.Table.{lastTerm, latest, lastAtom, ascending, inTime, namesOf, within, recordsAt, atomsAt, nameCount, atomCount, shown, isTable}
+use Rattle.timetable.specs.Table.{headerLength, latest, ascends, timesFit, namesOf, within, nameCount, atomCount, recordsAt, atomsAt, contentOf, isTable}
 use Rattle.timetable.specs.Times.{timeAmong}
 
 -- ---- records
 
 -- whether the records that are left from p on ascend from low on and are within the bounds
 unfoldable pub recordsLeft : List ℕ → ℕ → ℕ → ℕ → Bool
-recordsLeft s low left p = ascending low lastTerm (namesOf (recordsAt s left p)) && inTime (recordsAt s left p)
+recordsLeft s low left p = ascends low lastTerm (namesOf (recordsAt s left p)) && timesFit (recordsAt s left p)
 
 module _ (s : List ℕ) (low p : ℕ) where
   pub records-end : (left : ℕ) → left ≤ 0 → true ≡ recordsLeft s low left p
-  unfolding recordsLeft ascending inTime recordsAt
+  unfolding recordsLeft ascends timesFit recordsAt
   records-end left h = let e : left ≡ 0 = omega arith in rw e
 
   records-step : (left x y : ℕ) → 0 < left → x ≡ wordAt s p → y ≡ wordAt s (p + 4)
-      → leb low x && leb x lastTerm && ascending (x + 1) lastTerm (namesOf (recordsAt s (left - 1) (p + 8))) && (leb y latest && inTime (recordsAt s (left - 1) (p + 8)))
+      → leb low x && leb x lastTerm && ascends (x + 1) lastTerm (namesOf (recordsAt s (left - 1) (p + 8))) && (leb y latest && timesFit (recordsAt s (left - 1) (p + 8)))
       ≡ recordsLeft s low left p
-  unfolding recordsLeft ascending inTime recordsAt
+  unfolding recordsLeft ascends timesFit recordsAt
   records-step zero x y h e f = absurd (omega arith)
   records-step (suc k) x y h e f =
       let d : suc k - 1 ≡ k = omega arith in
@@ -51,16 +52,16 @@ module _ (s : List ℕ) (low p : ℕ) where
 
 -- whether the atoms that are left from p on ascend from low on and are within the bounds
 unfoldable pub atomsLeft : List ℕ → ℕ → ℕ → ℕ → Bool
-atomsLeft s low left p = ascending low lastAtom (atomsAt s left p)
+atomsLeft s low left p = ascends low lastAtom (atomsAt s left p)
 
 module _ (s : List ℕ) (low p : ℕ) where
   pub atoms-end : (left : ℕ) → left ≤ 0 → true ≡ atomsLeft s low left p
-  unfolding atomsLeft ascending atomsAt
+  unfolding atomsLeft ascends atomsAt
   atoms-end left h = let e : left ≡ 0 = omega arith in rw e
 
   atoms-step : (left x : ℕ) → 0 < left → x ≡ wordAt s p
-      → leb low x && leb x lastAtom && ascending (x + 1) lastAtom (atomsAt s (left - 1) (p + 4)) ≡ atomsLeft s low left p
-  unfolding atomsLeft ascending atomsAt
+      → leb low x && leb x lastAtom && ascends (x + 1) lastAtom (atomsAt s (left - 1) (p + 4)) ≡ atomsLeft s low left p
+  unfolding atomsLeft ascends atomsAt
   atoms-step zero x h e = absurd (omega arith)
   atoms-step (suc k) x h e =
       let d : suc k - 1 ≡ k = omega arith in
@@ -100,50 +101,50 @@ module _ (s : List ℕ) (u p : ℕ) where
 
 -- ---- the tests of a table
 
-pub too-short : (s : List ℕ) → length s < 16 → false ≡ isTable s
+pub too-short : (s : List ℕ) → length s < headerLength → false ≡ isTable s
 unfolding isTable
-too-short s h = rw (ne-eqb (length s) (16 + 8 * nameCount s + 4 * atomCount s) (λ e. omega arith))
+too-short s h = rw (ne-eqb (length s) (headerLength + 8 * nameCount s + 4 * atomCount s) (λ e. omega arith))
 
 module _ (s : List ℕ) (n m a b : ℕ) (en : n ≡ wordAt s 0) (em : m ≡ wordAt s 4) (ea : a ≡ wordAt s 8) (eb : b ≡ wordAt s 12) where
-  tests : eqb (length s) (16 + 8 * n + 4 * m) && eqb a 16 && eqb b (16 + 8 * n) && (recordsLeft s 0 n 16 && atomsLeft s 1 m (16 + 8 * n)) ≡ isTable s
+  tests : eqb (length s) (headerLength + 8 * n + 4 * m) && eqb a headerLength && eqb b (headerLength + 8 * n) && (recordsLeft s 0 n headerLength && atomsLeft s 1 m (headerLength + 8 * n)) ≡ isTable s
   unfolding isTable within recordsLeft atomsLeft
   tests = rw (en, em, ea, eb)
 
-  pub wrong-length : (length s ≡ 16 + 8 * n + 4 * m → ⊥) → false ≡ isTable s
+  pub wrong-length : (length s ≡ headerLength + 8 * n + 4 * m → ⊥) → false ≡ isTable s
   wrong-length x = rw (ne-eqb _ _ x) at tests
 
-  module _ (whole : length s ≡ 16 + 8 * n + 4 * m) where
-    pub wrong-first : (a ≡ 16 → ⊥) → false ≡ isTable s
+  module _ (whole : length s ≡ headerLength + 8 * n + 4 * m) where
+    pub wrong-first : (a ≡ headerLength → ⊥) → false ≡ isTable s
     wrong-first x = rw (eq-eqb _ _ whole, ne-eqb _ _ x) at tests
 
-    pub wrong-second : a ≡ 16 → (b ≡ 16 + 8 * n → ⊥) → false ≡ isTable s
+    pub wrong-second : a ≡ headerLength → (b ≡ headerLength + 8 * n → ⊥) → false ≡ isTable s
     wrong-second x y = rw (eq-eqb _ _ whole, eq-eqb _ _ x, ne-eqb _ _ y) at tests
 
-    pub right-shape : a ≡ 16 → b ≡ 16 + 8 * n → recordsLeft s 0 n 16 && atomsLeft s 1 m (16 + 8 * n) ≡ isTable s
+    pub right-shape : a ≡ headerLength → b ≡ headerLength + 8 * n → recordsLeft s 0 n headerLength && atomsLeft s 1 m (headerLength + 8 * n) ≡ isTable s
     right-shape x y = rw (eq-eqb _ _ whole, eq-eqb _ _ x, eq-eqb _ _ y) at tests
 
 -- the tests that a table passed
-pub record Passed (s : List ℕ) : Type 0 where
-  pub whole : length s ≡ 16 + 8 * nameCount s + 4 * atomCount s
-  pub first : wordAt s 8 ≡ 16
-  pub second : wordAt s 12 ≡ 16 + 8 * nameCount s
-  pub bounds : within (shown s) ≡ true
+pub record TestsPassed (s : List ℕ) : Type 0 where
+  pub whole : length s ≡ headerLength + 8 * nameCount s + 4 * atomCount s
+  pub first : wordAt s 8 ≡ headerLength
+  pub second : wordAt s 12 ≡ headerLength + 8 * nameCount s
+  pub bounds : within (contentOf s) ≡ true
 
-pub passed : (s : List ℕ) → isTable s ≡ true → Passed s
+pub passed : (s : List ℕ) → isTable s ≡ true → TestsPassed s
 unfolding isTable
 passed s h =
-    let a = eqb (length s) (16 + 8 * nameCount s + 4 * atomCount s) in
-    let b = eqb (wordAt s 8) 16 in
-    let c = eqb (wordAt s 12) (16 + 8 * nameCount s) in
-    let abc = and-cases (a && b && c) (within (shown s)) h .0 in
+    let a = eqb (length s) (headerLength + 8 * nameCount s + 4 * atomCount s) in
+    let b = eqb (wordAt s 8) headerLength in
+    let c = eqb (wordAt s 12) (headerLength + 8 * nameCount s) in
+    let abc = and-cases (a && b && c) (within (contentOf s)) h .0 in
     let ab = and-cases (a && b) c abc .0 in
     record {
-      whole = eqb-true (length s) (16 + 8 * nameCount s + 4 * atomCount s) (and-cases a b ab .0);
-      first = eqb-true (wordAt s 8) 16 (and-cases a b ab .1);
-      second = eqb-true (wordAt s 12) (16 + 8 * nameCount s) (and-cases (a && b) c abc .1);
-      bounds = and-cases (a && b && c) (within (shown s)) h .1;
+      whole = eqb-true (length s) (headerLength + 8 * nameCount s + 4 * atomCount s) (and-cases a b ab .0);
+      first = eqb-true (wordAt s 8) headerLength (and-cases a b ab .1);
+      second = eqb-true (wordAt s 12) (headerLength + 8 * nameCount s) (and-cases (a && b) c abc .1);
+      bounds = and-cases (a && b && c) (within (contentOf s)) h .1;
     }
 
-pub passes : (s : List ℕ) → Passed s → isTable s ≡ true
+pub passes : (s : List ℕ) → TestsPassed s → isTable s ≡ true
 unfolding isTable
 passes s q = rw (eq-eqb _ _ (q .whole), eq-eqb _ _ (q .first), eq-eqb _ _ (q .second), q .bounds)

@@ -8,12 +8,14 @@ use native.Mathlib.Nat.{add-zero, zero-add}
 use borrow.Author.Tests.{eq-eqb, ne-eqb, le-leb}
 use lib.Dec.{eqb}
 use lib.ListN.{length}
-use Rattle.faults.specs.Answer.{got, refused}
 use Rattle.basics.specs.Bools.{pick}
 use Rattle.basics.specs.inner.Bitmaps.{isMarked, marks, markedFrom}
-use Rattle.timetable.specs.Table.{Content, tableOf, lastTerm, latest, lastAtom, inTime, namesOf, within}
+use Rattle.faults.specs.Answer.{got, refused}
+use Rattle.faults.specs.Limits.{lastAtom, lastTerm, tableRoom}
+use Rattle.faults.specs.inner.Places.{atomPlaces, termPlaces}
+use Rattle.timetable.specs.Table.{Content, recordsOf, tableOf, latest, timesFit, namesOf, within}
 use Rattle.timetable.specs.Times.{timeAmong, timeOf}
-use Rattle.timetable.specs.Given.{timeAt, recordsOf, given, Timely}
+use Rattle.timetable.specs.inner.Given.{timeAt, given, Timely}
 use Rattle.timetable.proofs.Marks.{marked-ascend}
 use Rattle.timetable.proofs.Bounds.{few, names-few, is-within, from-within}
 use Rattle.timetable.proofs.Writing.{length-table}
@@ -27,8 +29,8 @@ names-recorded [] time = refl
 names-recorded (u ∷ names) time = ap (λ (l : List ℕ). u ∷ l) (names-recorded names time)
 
 marks-in-time : (i : ℕ) (bs : List ℕ) (time : ℕ → ℕ) → ((k : ℕ) → isMarked bs k ≡ true → time (i + k) ≤ latest)
-    → inTime (recordsOf (marks i bs) time) ≡ true
-unfolding inTime recordsOf marks
+    → timesFit (recordsOf (marks i bs) time) ≡ true
+unfolding timesFit recordsOf marks
 marks-in-time i [] time h = refl
 marks-in-time i (b ∷ bs) time h =
     go (eqb b 1) (λ e. rw add-zero at (h 0 e)) (marks-in-time (i + 1) bs time (λ k e. later k (h (suc k) e)))
@@ -36,13 +38,13 @@ marks-in-time i (b ∷ bs) time h =
     later : (k : ℕ) → time (i + suc k) ≤ latest → time (i + 1 + k) ≤ latest
     later k l = let e : i + suc k ≡ i + 1 + k = omega arith in rw e at l
 
-    go : (t : Bool) → (t ≡ true → time i ≤ latest) → inTime (recordsOf (marks (i + 1) bs) time) ≡ true
-        → inTime (recordsOf (pick t (i ∷ marks (i + 1) bs) (marks (i + 1) bs)) time) ≡ true
+    go : (t : Bool) → (t ≡ true → time i ≤ latest) → timesFit (recordsOf (marks (i + 1) bs) time) ≡ true
+        → timesFit (recordsOf (pick t (i ∷ marks (i + 1) bs) (marks (i + 1) bs)) time) ≡ true
     go true l r = rw (le-leb (time i) latest (l refl)) r
     go false l r = r
 
 -- marked names with timely times, and marked atoms, are a content within the bounds
-pub given-within : (names times atoms : List ℕ) → Timely names times → length names ≡ 1024 → length atoms ≡ 4097
+given-within : (names times atoms : List ℕ) → Timely names times → length names ≡ termPlaces → length atoms ≡ atomPlaces
     → within (given names times atoms) ≡ true
 unfolding given markedFrom
 given-within names times atoms q n m =
@@ -54,7 +56,7 @@ given-within names times atoms q n m =
     })
 
 -- a table is at most 24,592 bytes long
-pub longest : (c : Content) → within c ≡ true → length (tableOf c) ≤ 24592
+pub longest : (c : Content) → within c ≡ true → length (tableOf c) ≤ tableRoom
 longest c h =
     let g = is-within c h in
     omega (
@@ -104,7 +106,7 @@ unfolding timeOf
 read-table c h u = let r = read-back c h in rw (r .is) (ap (λ (d : Content). timeAmong u (d .records)) (r .content))
 
 -- the round trip: from a written table the time of each marked name is read back, and for every other number 21
-pub round-trip : (names times atoms : List ℕ) → Timely names times → length names ≡ 1024 → length atoms ≡ 4097
+pub round-trip : (names times atoms : List ℕ) → Timely names times → length names ≡ termPlaces → length atoms ≡ atomPlaces
     → (u : ℕ) → timeOf (tableOf (given names times atoms)) u ≡ pick (isMarked names u) (got (timeAt times u)) (refused 21 u)
 unfolding given markedFrom
 round-trip names times atoms q n m u =

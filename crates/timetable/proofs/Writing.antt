@@ -6,28 +6,30 @@ use native.Mathlib.Omega.{arith}
 use native.Mathlib.Nat.{zero-add}
 use lib.ListN.{length, getD, length-append, length-map}
 use lib.Seq.{sets, sets-eq}
-use Rattle.timetable.specs.Word.{word}
 use Rattle.basics.specs.inner.Bitmaps.{markedFrom}
-use Rattle.timetable.specs.Table.{Record, Content, recordBytes, atomBytes, headerBytes, tableOf}
-use Rattle.timetable.specs.Given.{timeAt, recordsOf, given, Written}
+use Rattle.faults.specs.Limits.{lastAtom, tableRoom}
+use Rattle.faults.specs.inner.Places.{termPlaces}
+use Rattle.timetable.specs.Word.{fourBytes}
+use Rattle.timetable.specs.Table.{Record, Content, recordsOf, recordBytes, atomBytes, headerLength, headerBytes, tableOf}
+use Rattle.timetable.specs.inner.Given.{timeAt, given, WrittenTable}
 use Rattle.timetable.proofs.Stores.{sets-next}
 use Rattle.timetable.proofs.Marks.{marked-none, marked-pass, marked-take}
 
 -- ---- words in a row
 
-pub two-stored : (l r₁ r₂ : List ℕ) (o x y : ℕ) → r₁ ≡ sets l o (word x) → r₂ ≡ sets r₁ (o + 4) (word y)
-    → r₂ ≡ sets l o (word x ++ word y)
-unfolding word
-two-stored l r₁ r₂ o x y e f = f ∙ sets-next l r₁ o (o + 4) (word x) (word y) e refl
+pub two-stored : (l r₁ r₂ : List ℕ) (o x y : ℕ) → r₁ ≡ sets l o (fourBytes x) → r₂ ≡ sets r₁ (o + 4) (fourBytes y)
+    → r₂ ≡ sets l o (fourBytes x ++ fourBytes y)
+unfolding fourBytes
+two-stored l r₁ r₂ o x y e f = f ∙ sets-next l r₁ o (o + 4) (fourBytes x) (fourBytes y) e refl
 
 pub header-stored : (l r₁ r₂ r₃ r₄ : List ℕ) (n m : ℕ)
-    → r₁ ≡ sets l 0 (word n) → r₂ ≡ sets r₁ 4 (word m) → r₃ ≡ sets r₂ 8 (word 16) → r₄ ≡ sets r₃ 12 (word (16 + 8 * n))
+    → r₁ ≡ sets l 0 (fourBytes n) → r₂ ≡ sets r₁ 4 (fourBytes m) → r₃ ≡ sets r₂ 8 (fourBytes headerLength) → r₄ ≡ sets r₃ 12 (fourBytes (headerLength + 8 * n))
     → r₄ ≡ sets l 0 (headerBytes n m)
-unfolding headerBytes word
+unfolding headerBytes fourBytes
 header-stored l r₁ r₂ r₃ r₄ n m a b c d =
-    let e₂ : r₂ ≡ sets l 0 (word n ++ word m) = two-stored l r₁ r₂ 0 n m a b in
-    let e₃ : r₃ ≡ sets l 0 (word n ++ word m ++ word 16) = c ∙ sets-next l r₂ 0 8 (word n ++ word m) (word 16) e₂ refl in
-    d ∙ sets-next l r₃ 0 12 (word n ++ word m ++ word 16) (word (16 + 8 * n)) e₃ refl
+    let e₂ : r₂ ≡ sets l 0 (fourBytes n ++ fourBytes m) = two-stored l r₁ r₂ 0 n m a b in
+    let e₃ : r₃ ≡ sets l 0 (fourBytes n ++ fourBytes m ++ fourBytes headerLength) = c ∙ sets-next l r₂ 0 8 (fourBytes n ++ fourBytes m) (fourBytes headerLength) e₂ refl in
+    d ∙ sets-next l r₃ 0 12 (fourBytes n ++ fourBytes m ++ fourBytes headerLength) (fourBytes (headerLength + 8 * n)) e₃ refl
 
 -- ---- the loops
 
@@ -44,11 +46,11 @@ module _ (room : List ℕ) (o i : ℕ) (names times : List ℕ) where
   unfolding withRecords
   records-pass h n = rw (marked-pass names i h n)
 
-  pub records-take : (r : List ℕ) → i < length names → getD names i 0 ≡ 1 → r ≡ sets room o (word i ++ word (timeAt times i))
+  pub records-take : (r : List ℕ) → i < length names → getD names i 0 ≡ 1 → r ≡ sets room o (fourBytes i ++ fourBytes (timeAt times i))
       → withRecords r (o + 8) (i + 1) names times ≡ withRecords room o i names times
-  unfolding withRecords recordsOf recordBytes word
+  unfolding withRecords recordsOf recordBytes fourBytes
   records-take r h n e =
-      sets-next room r o (o + 8) (word i ++ word (timeAt times i)) (recordBytes (recordsOf (markedFrom (i + 1) names) (timeAt times))) e refl
+      sets-next room r o (o + 8) (fourBytes i ++ fourBytes (timeAt times i)) (recordBytes (recordsOf (markedFrom (i + 1) names) (timeAt times))) e refl
       ∙ rw (← marked-take names i h n)
 
 -- the room once the marked atoms from i on stand at o
@@ -64,29 +66,29 @@ module _ (room : List ℕ) (o i : ℕ) (atoms : List ℕ) where
   unfolding withAtoms
   atoms-pass h n = rw (marked-pass atoms i h n)
 
-  pub atoms-take : (r : List ℕ) → i < length atoms → getD atoms i 0 ≡ 1 → r ≡ sets room o (word i)
+  pub atoms-take : (r : List ℕ) → i < length atoms → getD atoms i 0 ≡ 1 → r ≡ sets room o (fourBytes i)
       → withAtoms r (o + 4) (i + 1) atoms ≡ withAtoms room o i atoms
-  unfolding withAtoms atomBytes word
-  atoms-take r h n e = sets-next room r o (o + 4) (word i) (atomBytes (markedFrom (i + 1) atoms)) e refl ∙ rw (← marked-take atoms i h n)
+  unfolding withAtoms atomBytes fourBytes
+  atoms-take r h n e = sets-next room r o (o + 4) (fourBytes i) (atomBytes (markedFrom (i + 1) atoms)) e refl ∙ rw (← marked-take atoms i h n)
 
 -- ---- the whole table
 
-length-header : (n m : ℕ) → length (headerBytes n m) ≡ 16
-unfolding headerBytes word
+length-header : (n m : ℕ) → length (headerBytes n m) ≡ headerLength
+unfolding headerBytes fourBytes
 length-header n m = refl
 
 length-records : (rs : List Record) → length (recordBytes rs) ≡ 8 * length rs
-unfolding recordBytes word
+unfolding recordBytes fourBytes
 length-records [] = refl
 length-records (r ∷ rs) = omega (arith, length-records rs)
 
 length-atoms : (xs : List ℕ) → length (atomBytes xs) ≡ 4 * length xs
-unfolding atomBytes word
+unfolding atomBytes fourBytes
 length-atoms [] = refl
 length-atoms (x ∷ xs) = omega (arith, length-atoms xs)
 
 -- a table of n names and m atoms has 16 + 8n + 4m bytes
-pub length-table : (c : Content) → length (tableOf c) ≡ 16 + 8 * length (c .records) + 4 * length (c .atoms)
+pub length-table : (c : Content) → length (tableOf c) ≡ headerLength + 8 * length (c .records) + 4 * length (c .atoms)
 unfolding tableOf
 length-table c =
     let header = headerBytes (length (c .records)) (length (c .atoms)) in
@@ -100,26 +102,26 @@ length-table c =
     )
 
 pub table-stored : (l r₁ r₂ r₃ names times atoms : List ℕ) (n m : ℕ)
-    → 24592 ≤ length l → n ≤ 1024 → m ≤ 4096
+    → tableRoom ≤ length l → n ≤ termPlaces → m ≤ lastAtom
     → n ≡ length (markedFrom 0 names) → m ≡ length (markedFrom 1 atoms)
     → r₁ ≡ sets l 0 (headerBytes n m)
-    → r₂ ≡ sets r₁ 16 (recordBytes (recordsOf (markedFrom 0 names) (timeAt times)))
-    → r₃ ≡ sets r₂ (16 + 8 * n) (atomBytes (markedFrom 1 atoms))
-    → Written (tableOf (given names times atoms)) l r₃ (16 + 8 * n + 4 * m)
+    → r₂ ≡ sets r₁ headerLength (recordBytes (recordsOf (markedFrom 0 names) (timeAt times)))
+    → r₃ ≡ sets r₂ (headerLength + 8 * n) (atomBytes (markedFrom 1 atoms))
+    → WrittenTable (tableOf (given names times atoms)) l r₃ (headerLength + 8 * n + 4 * m)
 unfolding tableOf given recordsOf
 table-stored l r₁ r₂ r₃ names times atoms n m long hn hm en em e₁ e₂ e₃ =
     let rs = recordsOf (markedFrom 0 names) (timeAt times) in
     let xs = markedFrom 1 atoms in
     let header = headerBytes n m in
     let cn : n ≡ length rs = en ∙ rw length-map in
-    let k₁ : 16 ≡ 0 + length header = omega (arith, length-header n m) in
-    let k₂ : 16 + 8 * n ≡ 0 + length (header ++ recordBytes rs) =
+    let k₁ : headerLength ≡ 0 + length header = omega (arith, length-header n m) in
+    let k₂ : headerLength + 8 * n ≡ 0 + length (header ++ recordBytes rs) =
     omega (arith, length-append header (recordBytes rs), length-header n m, length-records rs) in
-    let s₂ : r₂ ≡ sets l 0 (header ++ recordBytes rs) = e₂ ∙ sets-next l r₁ 0 16 header (recordBytes rs) e₁ k₁ in
+    let s₂ : r₂ ≡ sets l 0 (header ++ recordBytes rs) = e₂ ∙ sets-next l r₁ 0 headerLength header (recordBytes rs) e₁ k₁ in
     let s₃ : r₃ ≡ sets l 0 (header ++ recordBytes rs ++ atomBytes xs) =
-    e₃ ∙ sets-next l r₂ 0 (16 + 8 * n) (header ++ recordBytes rs) (atomBytes xs) s₂ k₂ in
+    e₃ ∙ sets-next l r₂ 0 (headerLength + 8 * n) (header ++ recordBytes rs) (atomBytes xs) s₂ k₂ in
     let t : r₃ ≡ sets l 0 (tableOf (given names times atoms)) = rw (← cn, ← em) s₃ in
-    let k : 16 + 8 * n + 4 * m ≡ length (tableOf (given names times atoms)) = omega (arith, length-table (given names times atoms)) in
+    let k : headerLength + 8 * n + 4 * m ≡ length (tableOf (given names times atoms)) = omega (arith, length-table (given names times atoms)) in
     record {
       count = k;
       fits = omega arith;

@@ -2,4 +2,4 @@
 pub mod Word
 pub mod Table
 pub mod Times
-pub mod Given
+pub mod inner

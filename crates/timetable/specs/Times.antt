@@ -1,11 +1,11 @@
--- What the reader of a time answers. Assumes nothing.
+-- Believed: what the reader of a time answers. Assumes nothing.
 use Prim.Native.Nat.{ℕ}
 use mathlib.Core.List.{List, [], _∷_}
 use lib.Dec.{eqb}
 use Rattle.basics.specs.Bools.{pick}
 use Rattle.faults.specs.Answer.{Answer, got, refused}
 use Rattle.faults.specs.Values.{number}
-use Rattle.timetable.specs.Table.{Record, shown, isTable}
+use Rattle.timetable.specs.Table.{Record, contentOf, isTable}
 use Rattle.timetable.specs.declared.Time.{Time}
 use Rattle.timetable.specs.declared.Time.the-variants.{At, Refused}
 
@@ -21,4 +21,4 @@ timeAmong u (r ∷ rs) = pick (eqb (r .name) u) (got (r .time)) (timeAmong u rs)
 
 -- 20, or the time of name u, or 21
 unfoldable pub timeOf : List ℕ → ℕ → Answer ℕ
-timeOf s u = pick (isTable s) (timeAmong u (shown s .records)) (refused 20 0)
+timeOf s u = pick (isTable s) (timeAmong u (contentOf s .records)) (refused 20 0)

@@ -1,11 +1,11 @@
--- Fields of 32 bits, little-endian. Assumes nothing.
+-- Believed: fields of 32 bits, little-endian. Assumes nothing.
 use Prim.Native.Nat.{ℕ, _+_, _*_, _/_, _%_}
 use mathlib.Core.List.{List, [], _∷_}
 use lib.ListN.{getD}
 
 -- the four bytes of a number
-unfoldable pub word : ℕ → List ℕ
-word n = n % 256 ∷ n / 256 % 256 ∷ n / 65536 % 256 ∷ n / 16777216 % 256 ∷ []
+unfoldable pub fourBytes : ℕ → List ℕ
+fourBytes n = n % 256 ∷ n / 256 % 256 ∷ n / 65536 % 256 ∷ n / 16777216 % 256 ∷ []
 
 -- the number whose four bytes stand at p; a byte past the end is 0
 unfoldable pub wordAt : List ℕ → ℕ → ℕ

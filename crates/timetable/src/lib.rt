@@ -5,24 +5,25 @@ ghost use mathlib.Core.Bool.{_&&_};
 ghost use mathlib.Core.List.{_++_};
 ghost use lib.ListN.{length};
 ghost use lib.Seq.{sets};
-ghost use Rattle.timetable.specs.Word.{word, wordAt};
 ghost use Rattle.basics.specs.inner.Bitmaps.{markedFrom};
-ghost use Rattle.timetable.specs.Table.{tableOf, headerBytes, recordBytes, atomBytes, recordsAt, atomsAt, lastTerm, lastAtom, ascending, namesOf, inTime, isTable};
+ghost use Rattle.faults.specs.Limits.{lastAtom, lastTerm};
+ghost use Rattle.faults.specs.inner.Places.{atomPlaces, termPlaces};
+ghost use Rattle.timetable.specs.Word.{fourBytes, wordAt};
+ghost use Rattle.timetable.specs.Table.{recordsOf, recordBytes, atomBytes, headerLength, headerBytes, tableOf, ascends, timesFit, namesOf, recordsAt, atomsAt, isTable};
 ghost use Rattle.timetable.specs.Times.{asTime, timeAmong, timeOf};
-ghost use Rattle.timetable.specs.Given.{timeAt, recordsOf, given, Sized, Timely, Written};
+ghost use Rattle.timetable.specs.inner.Given.{timeAt, given, WriterRooms, Timely, WrittenTable};
 use faults::AtomNo;
 use faults::Kind;
+use faults::LAST_ATOM;
+use faults::LAST_TERM;
 use faults::Refusal;
 use faults::TermNo;
-
-// The largest term number of a timetable.
-const LAST_TERM: u32 = 1023;
 
 // The largest time of a timetable.
 const LATEST: u32 = 1023000000;
 
-// The largest atom of a timetable.
-const LAST_ATOM: u32 = 4096;
+// The bytes of the header.
+pub const HEADER: usize = 16;
 
 // What the reader answers: a time, or why there is none.
 pub enum Time {
@@ -40,7 +41,7 @@ fn low_byte(w: u32) -> u8
 // Writes the four bytes of a number at a place.
 fn put_word(room: &mut [u8], at: usize, w: u32)
     requires { ⌜ at + 4 ≤ length (now room) ⌝ }
-    ensures { λ _. ⌜ now (room .exit) ≡ sets (now (room .entry)) at (word w) ⌝ }
+    ensures { λ _. ⌜ now (room .exit) ≡ sets (now (room .entry)) at (fourBytes w) ⌝ }
 {
     room[at] = low_byte(w);
     room[at + 1] = low_byte(w / 256);
@@ -51,7 +52,7 @@ fn put_word(room: &mut [u8], at: usize, w: u32)
 // Writes a record at a place.
 fn put_record(room: &mut [u8], at: usize, name: TermNo, time: u32)
     requires { ⌜ at + 8 ≤ length (now room) ⌝ }
-    ensures { λ _. ⌜ now (room .exit) ≡ sets (now (room .entry)) at (word (name .0) ++ word time) ⌝ }
+    ensures { λ _. ⌜ now (room .exit) ≡ sets (now (room .entry)) at (fourBytes (name .0) ++ fourBytes time) ⌝ }
 {
     put_word(room, at, name.0);
     put_word(room, at + 4, time);
@@ -60,7 +61,7 @@ fn put_record(room: &mut [u8], at: usize, name: TermNo, time: u32)
 // Writes an atom at a place.
 fn put_atom(room: &mut [u8], at: usize, atom: AtomNo)
     requires { ⌜ at + 4 ≤ length (now room) ⌝ }
-    ensures { λ _. ⌜ now (room .exit) ≡ sets (now (room .entry)) at (word (atom .0)) ⌝ }
+    ensures { λ _. ⌜ now (room .exit) ≡ sets (now (room .entry)) at (fourBytes (atom .0)) ⌝ }
 {
     put_word(room, at, atom.0);
 }
@@ -85,19 +86,20 @@ pub fn count_marked(map: &[u8], from: usize) -> usize
 
 // Writes the header of a table of n names and m atoms.
 fn write_header(room: &mut [u8], n: u32, m: u32)
-    requires { ⌜ (16 ≤ length (now room)) × (n ≤ 1024) ⌝ }
+    requires { ⌜ (headerLength ≤ length (now room)) × (n ≤ termPlaces) ⌝ }
     ensures { λ _. ⌜ now (room .exit) ≡ sets (now (room .entry)) 0 (headerBytes n m) ⌝ }
 {
+    let first = HEADER as u32;
     put_word(room, 0, n);
     put_word(room, 4, m);
-    put_word(room, 8, 16);
-    put_word(room, 12, 16 + 8 * n);
+    put_word(room, 8, first);
+    put_word(room, 12, first + 8 * n);
 }
 
 // Writes the records of the marked names into the part of the room that begins at their offset.
 fn write_names(part: &mut [u8], names: &[u8], times: &[u64])
     requires { ⌜ Timely (now names) (now times) ⌝ }
-    requires { ⌜ (length (now names) ≡ 1024) × (length (now times) ≡ 1024) ⌝ }
+    requires { ⌜ (length (now names) ≡ termPlaces) × (length (now times) ≡ termPlaces) ⌝ }
     requires { ⌜ 8 * length (markedFrom 0 (now names)) ≤ length (now part) ⌝ }
     ensures { λ _. ⌜ now (part .exit) ≡ sets (now (part .entry)) 0 (recordBytes (recordsOf (markedFrom 0 (now (names .entry))) (timeAt (now (times .entry))))) ⌝ }
 {
@@ -118,7 +120,7 @@ fn write_names(part: &mut [u8], names: &[u8], times: &[u64])
 
 // Writes the marked atoms into the part of the room that begins at their offset.
 fn write_atoms(part: &mut [u8], atoms: &[u8])
-    requires { ⌜ length (now atoms) ≡ 4097 ⌝ }
+    requires { ⌜ length (now atoms) ≡ atomPlaces ⌝ }
     requires { ⌜ 4 * length (markedFrom 1 (now atoms)) ≤ length (now part) ⌝ }
     ensures { λ _. ⌜ now (part .exit) ≡ sets (now (part .entry)) 0 (atomBytes (markedFrom 1 (now (atoms .entry)))) ⌝ }
 {
@@ -138,15 +140,15 @@ fn write_atoms(part: &mut [u8], atoms: &[u8])
 
 // Writes the timetable of the marked names, their times and the marked atoms, and answers its length.
 pub fn write(room: &mut [u8], names: &[u8], times: &[u64], atoms: &[u8]) -> usize
-    requires { ⌜ Sized (now names) (now times) (now atoms) (now room) ⌝ }
+    requires { ⌜ WriterRooms (now names) (now times) (now atoms) (now room) ⌝ }
     requires { ⌜ Timely (now names) (now times) ⌝ }
-    ensures { λ r. ⌜ Written (tableOf (given (now (names .entry)) (now (times .entry)) (now (atoms .entry)))) (now (room .entry)) (now (room .exit)) r ⌝ }
+    ensures { λ r. ⌜ WrittenTable (tableOf (given (now (names .entry)) (now (times .entry)) (now (atoms .entry)))) (now (room .entry)) (now (room .exit)) r ⌝ }
 {
     let n = count_marked(names, 0);
     let m = count_marked(atoms, 1);
     write_header(room, n as u32, m as u32);
-    write_names(&mut room[16..], names, times);
-    let at = 16 + 8 * n;
+    write_names(&mut room[HEADER..], names, times);
+    let at = HEADER + 8 * n;
     write_atoms(&mut room[at..], atoms);
     at + 4 * m
 }
@@ -173,7 +175,7 @@ pub fn word_at(table: &[u8], p: usize) -> u32
 // Whether n records from a place on ascend and are within the bounds.
 fn records_within(table: &[u8], n: usize, from: usize) -> bool
     requires { ⌜ from + 8 * n ≤ length (now table) ⌝ }
-    ensures { λ r. ⌜ r ≡ ascending 0 lastTerm (namesOf (recordsAt (now (table .entry)) n from)) && inTime (recordsAt (now (table .entry)) n from) ⌝ }
+    ensures { λ r. ⌜ r ≡ ascends 0 lastTerm (namesOf (recordsAt (now (table .entry)) n from)) && timesFit (recordsAt (now (table .entry)) n from) ⌝ }
 {
     let mut low: u32 = 0;
     let mut left = n;
@@ -201,7 +203,7 @@ fn records_within(table: &[u8], n: usize, from: usize) -> bool
 // Whether n atoms from a place on ascend and are within the bounds.
 fn atoms_within(table: &[u8], n: usize, from: usize) -> bool
     requires { ⌜ from + 4 * n ≤ length (now table) ⌝ }
-    ensures { λ r. ⌜ r ≡ ascending 1 lastAtom (atomsAt (now (table .entry)) n from) ⌝ }
+    ensures { λ r. ⌜ r ≡ ascends 1 lastAtom (atomsAt (now (table .entry)) n from) ⌝ }
 {
     let mut low: u32 = 1;
     let mut left = n;
@@ -225,25 +227,25 @@ fn atoms_within(table: &[u8], n: usize, from: usize) -> bool
 fn is_table(table: &[u8]) -> bool
     ensures { λ r. ⌜ r ≡ isTable (now (table .entry)) ⌝ }
 {
-    if table.len() < 16 {
+    if table.len() < HEADER {
         return false;
     }
     let n = word_at(table, 0) as usize;
     let m = word_at(table, 4) as usize;
-    let first = word_at(table, 8);
+    let first = word_at(table, 8) as usize;
     let second = word_at(table, 12) as usize;
-    let at = 16 + 8 * n;
+    let at = HEADER + 8 * n;
     let end = at + 4 * m;
     if table.len() != end {
         return false;
     }
-    if first != 16 {
+    if first != HEADER {
         return false;
     }
     if second != at {
         return false;
     }
-    if records_within(table, n, 16) {
+    if records_within(table, n, HEADER) {
         return atoms_within(table, m, at);
     }
     false
@@ -277,7 +279,7 @@ pub fn time_of(table: &[u8], name: TermNo) -> Time
 {
     if is_table(table) {
         let n = word_at(table, 0) as usize;
-        return time_among(table, n, 16, name);
+        return time_among(table, n, HEADER, name);
     }
     Time::Refused(Refusal {
         kind: Kind::NotTable,

@@ -1,2 +1,2 @@
 -- The definitions that the contracts cite.
-pub mod Long
+pub mod inner

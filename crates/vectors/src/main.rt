@@ -3,9 +3,12 @@
 ghost use mathlib.Core.Path.{_≡_};
 ghost use Prim.Native.Nat.{_≤_, min};
 ghost use lib.ListN.{length};
-ghost use Rattle.files.specs.Cases.{caseAt, nextAt};
-ghost use Rattle.vectors.specs.Long.{commented};
+ghost use Rattle.files.specs.inner.Cases.{caseAt, nextAt};
+ghost use Rattle.vectors.specs.inner.Long.{commented};
+use faults::CYCLE_ROOM;
+use faults::LONGEST_TEXT;
 use faults::Refusal;
+use faults::TABLE_ROOM;
 use faults::TermNo;
 use files::container::Case;
 use files::container::case_at;
@@ -119,8 +122,8 @@ fn print_more<'a>(verdict: Verdict, text: &'a [u8], cand: &'a [u8], room: &[u8])
 
 // Judges a pair, and prints what that gives.
 fn print_pair<'a>(text: &'a [u8], cand: &'a [u8]) {
-    let mut room = [0u8; 24592];
-    let mut cycle = [0u32; 1024];
+    let mut room = [0u8; TABLE_ROOM];
+    let mut cycle = [0u32; CYCLE_ROOM];
     let verdict = judge::judge(text, cand, &mut room, &mut cycle);
     let mut out = io::large_buffer();
     let n = report::write(&mut out, verdict, &room, &cycle);
@@ -156,7 +159,7 @@ fn print_comment(n: usize)
 // Judges both texts.
 fn print_long() {
     print_name(b"long-60000");
-    print_comment(60000);
+    print_comment(LONGEST_TEXT);
     print_name(b"long-60001");
     print_comment(60001);
 }

@@ -1,7 +1,11 @@
 -- `aspif::read` meets its contract: the first line, then the lines. Assumes nothing.
 use borrow.Author.Needs.{needs}
+use native.Mathlib.Omega.{arith}
+use lib.Dec.{lit<}
+use Rattle.fields.proofs.Readers.{reads-ends}
 use Rattle.aspif.specs.Grammar.{plan, statements}
-use Rattle.aspif.specs.Values.{taped}
+use Rattle.aspif.specs.inner.Values.{taped}
+use Rattle.aspif.proofs.Kept.{first-reads}
 use Rattle.aspif.proofs.read.Statement.{statement}
 use Rattle.aspif.proofs.read.Tie as tie
 
@@ -18,16 +22,20 @@ enum-told : tie.Need-enum-told
 enum-told c = search needs
 
 refusal-requires : tie.Need-refusal-requires
-refusal-requires c κs = search needs
+refusal-requires c κs = rw (c .enum-told .given .1)
 
 returns : tie.Need-returns
 unfolding statements plan taped
 returns c =
     let f = rw (c .before .before .before .before .start .ensures) at (c .before .before .before .first-line .ensures) in
-    (rw (c .refusal .ensures, ← f, c .before .enum-told .given .1), (rw (c .refusal .ensures, ← f, c .before .enum-told .given .1), tt))
+    (rw (← f, c .refusal .ensures), (rw (← f, c .refusal .ensures), tt))
 
 lines-requires : tie.Need-lines-requires
-lines-requires c κs = search needs
+lines-requires c κs =
+    let f = rw (c .before .before .before .before .before .start .ensures) at (c .before .before .before .before .first-line .ensures) in
+    let e = rw (c .before .before .a .given .1) at f in
+    let h = reads-ends (lit< tt) (first-reads _ _) _ _ e in
+    (omega arith, search needs, search needs)
 
 same-length : tie.Need-same-length
 same-length c = search needs

@@ -5,9 +5,10 @@ use Prim.Native.Nat.{ℕ}
 use native.Mathlib.Omega.{arith}
 use lib.ListN.{length-replicate}
 use mir.Facts.{toZ-ofZ}
-use Rattle.diffs.specs.Answer.{timed, cyclic}
+use Rattle.faults.specs.inner.Places.{termPlaces}
+use Rattle.diffs.specs.inner.Answer.{timed, cyclic}
 use Rattle.diffs.proofs.Deciding.{fresh, times-of, traceable, numbers-as, never}
-use Rattle.diffs.proofs.Showing.{shown}
+use Rattle.diffs.proofs.Showing.{laid-shown}
 use Rattle.diffs.proofs.decide.Statement.{statement}
 use Rattle.diffs.proofs.decide.Tie as tie
 
@@ -15,7 +16,7 @@ slice-aggregate-settle : tie.Need-slice-aggregate-settle
 slice-aggregate-settle c = search needs
 
 settle-requires : tie.Need-settle-requires
-settle-requires c κs = fresh _ _ _ _ _ _ _ (c .before .before .before .before .before .before .before .pre) (length-replicate {A = ℕ} 1024 0)
+settle-requires c κs = fresh _ _ _ _ _ _ _ (c .before .before .before .before .before .before .before .pre) (length-replicate {A = ℕ} termPlaces 0)
 
 same-length : tie.Need-same-length
 same-length c = search needs
@@ -34,7 +35,7 @@ trace-requires c κs =
     let g = c .before .before .before .before .before .before .before .before .before .before .before .before .before .before .pre in
     let s = c .before .before .before .before .before .before .settle in
     traceable _ _ _ (s .last .1 .1 .1 .0) _ _ _ _ (s .ensures) (λ e. c .before .before .if1 .left (e ∙ sym (s .kept .1 .1 .1 .0))) (g .slices) (g .times)
-    (s .kept .1 .1 .1 .1 .0 ∙ length-replicate {A = ℕ} 1024 0) (length-replicate {A = ℕ} 1024 0)
+    (s .kept .1 .1 .1 .1 .0 ∙ length-replicate {A = ℕ} termPlaces 0) (length-replicate {A = ℕ} termPlaces 0)
 
 slice-aggregate-lay : tie.Need-slice-aggregate-lay
 slice-aggregate-lay c = search needs
@@ -44,13 +45,13 @@ lay-requires c κs =
     let g = c .before .before .before .before .before .before .before .before .before .before .before .before .before .before .before .before .before .before .before .before .pre in
     let r = c .before .before .before .before .before .trace in (
       numbers-as _ _ _ _ _ (sym (g .labels-length)) (r .ensures .numbers),
-      omega (arith, g .places, r .ensures .numbers .within, r .kept .1 .1 .1 .1 .1 .0, length-replicate {A = ℕ} 1024 0),
+      omega (arith, g .places, r .ensures .numbers .within, r .kept .1 .1 .1 .1 .1 .0, length-replicate {A = ℕ} termPlaces 0),
     )
 
 cast-count : tie.Need-cast-count
 cast-count c =
     let r = c .before .before .before .before .before .before .before .before .trace in
-    record { fits = omega (arith, c .before .before .lay .ensures .count, r .ensures .numbers .within, r .kept .1 .1 .1 .1 .1 .0, length-replicate {A = ℕ} 1024 0) }
+    record { fits = omega (arith, c .before .before .lay .ensures .count, r .ensures .numbers .within, r .kept .1 .1 .1 .1 .1 .0, length-replicate {A = ℕ} termPlaces 0) }
 
 same-length-2 : tie.Need-same-length-2
 same-length-2 c = search needs
@@ -59,7 +60,7 @@ same-length-3 : tie.Need-same-length-3
 same-length-3 c = search needs
 
 returns-2 : tie.Need-returns-2
-returns-2 c = cyclic _ refl (shown _ _ _ _ _ _ _ _ _ (c .before .before .before .before .before .before .before .before .trace .ensures .numbers) (c .before .before .before .before .before .before .before .before .trace .ensures .negative) (c .before .before .lay .ensures))
+returns-2 c = cyclic _ refl (laid-shown _ _ _ _ _ _ _ _ _ (c .before .before .before .before .before .before .before .before .trace .ensures .numbers) (c .before .before .before .before .before .before .before .before .trace .ensures .negative) (c .before .before .lay .ensures))
 
 same-length-4 : tie.Need-same-length-4
 same-length-4 c = search needs

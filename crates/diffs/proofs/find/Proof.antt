@@ -5,12 +5,12 @@ use mathlib.Core.Path.{_≡_}
 use Prim.Native.Nat.{ℕ, _-_, _<_, _≤_}
 use native.Mathlib.Omega.{arith}
 use lib.ListN.{length}
-use Rattle.diffs.specs.Answer.{at}
+use Rattle.diffs.specs.inner.Answer.{cell}
 use Rattle.diffs.proofs.find.Statement.{statement}
 use Rattle.diffs.proofs.find.Tie as tie
 
 abbrev Inv-loop : tie.InvT-loop
-Inv-loop ys w from a q₀ q = (from ≤ q) × (q ≤ length w) × ((k : ℕ) → k < q → from ≤ k → at ys (at w k) ≡ a → ⊥)
+Inv-loop ys w from a q₀ q = (from ≤ q) × (q ≤ length w) × ((k : ℕ) → k < q → from ≤ k → cell ys (cell w k) ≡ a → ⊥)
 
 abbrev μ-loop : tie.MeasureT-loop
 μ-loop ys w from a q₀ q = length w - q
@@ -35,7 +35,7 @@ shared-slice-read-y c = c .before .before .before .before .pre .1 (c .before .be
 
 cast-y : tie.Need-cast-y Inv-loop μ-loop
 cast-y c =
-    omega (arith, c .shared-slice-known2 .given (at (c .before .before .before .before .args .w .now) (c .before .before .before .loop .q)))
+    omega (arith, c .shared-slice-known2 .given (cell (c .before .before .before .before .args .w .now) (c .before .before .before .loop .q)))
 
 returns : tie.Need-returns Inv-loop μ-loop
 returns c = record {

@@ -5,26 +5,26 @@ use mathlib.Core.Logic.{inl, inr, ⊎-elim}
 use Prim.Native.Nat.{_-_, _<_, _≤_}
 use native.Mathlib.Omega.{arith}
 use lib.ListN.{length}
-use Rattle.diffs.specs.Answer.{at}
-use Rattle.diffs.specs.Steps.{turned}
-use Rattle.diffs.proofs.Laying.{Written, source, none, one-more, all-written}
+use Rattle.diffs.specs.inner.Answer.{cell}
+use Rattle.diffs.specs.inner.Steps.{turned}
+use Rattle.diffs.proofs.Laying.{LaidUpTo, source, none, one-more, all-written}
 use Rattle.diffs.proofs.lay.Statement.{statement}
 use Rattle.diffs.proofs.lay.Tie as tie
 
 abbrev Inv-loop : tie.InvT-loop
-Inv-loop labels w start end room₀ q n j₀ room j = Written w start end q labels room₀ j room
+Inv-loop labels w start end room₀ q n j₀ room j = LaidUpTo w start end q labels room₀ j room
 
 abbrev μ-loop : tie.MeasureT-loop
 μ-loop labels w start end room₀ q n j₀ room j = n - j
 
 module _ (c : tie.Joined1 Inv-loop μ-loop) where
-  place : (c .before .before .before .before .before .before .before .args .start ≤ c .if1 .s) × (c .if1 .s < c .before .before .before .before .before .before .before .args .end) × (at (turned (c .before .before .before .before .before .before .before .args .w .now) (c .before .before .before .before .before .before .before .args .start) (c .before .before .before .before .before .before .before .args .end) (c .before .before .before .least .result)) (c .before .before .loop .j) ≡ at (c .before .before .before .before .before .before .before .args .w .now) (c .if1 .s))
+  place : (c .before .before .before .before .before .before .before .args .start ≤ c .if1 .s) × (c .if1 .s < c .before .before .before .before .before .before .before .args .end) × (cell (turned (c .before .before .before .before .before .before .before .args .w .now) (c .before .before .before .before .before .before .before .args .start) (c .before .before .before .before .before .before .before .args .end) (c .before .before .before .least .result)) (c .before .before .loop .j) ≡ cell (c .before .before .before .before .before .before .before .args .w .now) (c .if1 .s))
   place =
       let g = c .before .before .before .before .before .before .before .pre in
       let l = c .before .before .before .least .ensures in
       source _ _ _ _ (g .0 .within) (l .from) (l .before) _ _ (omega arith) (⊎-elim (λ w. inl (w .0 .taken, w .1)) (λ w. inr (w .0 .left, w .1)) (c .if1 .came))
 
-  number : at (c .before .before .before .before .before .before .before .args .w .now) (c .if1 .s) < length (c .before .before .before .before .before .before .before .args .labels .now)
+  number : cell (c .before .before .before .before .before .before .before .args .w .now) (c .if1 .s) < length (c .before .before .before .before .before .before .before .args .labels .now)
   number = c .before .before .before .before .before .before .before .pre .0 .numbers (c .if1 .s) (place .0) (place .1)
 
 least-requires : tie.Need-least-requires Inv-loop μ-loop

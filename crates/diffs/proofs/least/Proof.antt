@@ -7,13 +7,13 @@ use mathlib.Core.List.{List}
 use Prim.Native.Nat.{ℕ, _+_, _-_, _<_, _≤_}
 use native.Mathlib.Nat.{le-refl}
 use native.Mathlib.Omega.{arith}
-use Rattle.diffs.specs.Answer.{at}
+use Rattle.diffs.specs.inner.Answer.{cell}
 use Rattle.diffs.proofs.least.Statement.{statement}
 use Rattle.diffs.proofs.least.Tie as tie
 
 -- no label of the places from start to before i is below that of q
 abbrev LeastTo : List ℕ → List ℕ → ℕ → ℕ → ℕ → Type 0
-LeastTo labels w start q i = (k : ℕ) → k < i → start ≤ k → at labels (at w q) ≤ at labels (at w k)
+LeastTo labels w start q i = (k : ℕ) → k < i → start ≤ k → cell labels (cell w q) ≤ cell labels (cell w k)
 
 abbrev Inv-loop : tie.InvT-loop
 Inv-loop labels w start end q₀ i₀ q i = (start ≤ q) × (q < i) × (i ≤ end) × LeastTo labels w start q i
@@ -23,22 +23,22 @@ abbrev μ-loop : tie.MeasureT-loop
 
 module _ (labels w : List ℕ) (start : ℕ) where
   one : LeastTo labels w start start (start + 1)
-  one k h j = let e : start ≡ k = omega arith in omega (arith, ap (λ (n : ℕ). at labels (at w n)) e)
+  one k h j = let e : start ≡ k = omega arith in omega (arith, ap (λ (n : ℕ). cell labels (cell w n)) e)
 
   both : (q q′ i : ℕ) → start ≤ q → q < i → LeastTo labels w start q i
-      → ((at labels (at w i) < at labels (at w q)) × (q′ ≡ i)) ⊎ ((at labels (at w q) ≤ at labels (at w i)) × (q′ ≡ q))
+      → ((cell labels (cell w i) < cell labels (cell w q)) × (q′ ≡ i)) ⊎ ((cell labels (cell w q) ≤ cell labels (cell w i)) × (q′ ≡ q))
       → (start ≤ q′) × (q′ < i + 1) × LeastTo labels w start q′ (i + 1)
   both q q′ i g h l (inl c) = (
     omega (arith, c .1),
     omega (arith, c .1),
     subst (λ (n : ℕ). LeastTo labels w start n (i + 1)) (sym (c .1))
-        (below-more (λ k. start ≤ k → at labels (at w i) ≤ at labels (at w k)) i (λ k j s. omega (arith, l k j s, c .0)) (λ s. le-refl (at labels (at w i)))),
+        (below-more (λ k. start ≤ k → cell labels (cell w i) ≤ cell labels (cell w k)) i (λ k j s. omega (arith, l k j s, c .0)) (λ s. le-refl (cell labels (cell w i)))),
   )
   both q q′ i g h l (inr c) = (
     omega (arith, c .1),
     omega (arith, c .1),
     subst (λ (n : ℕ). LeastTo labels w start n (i + 1)) (sym (c .1))
-        (below-more (λ k. start ≤ k → at labels (at w q) ≤ at labels (at w k)) i l (λ s. c .0)),
+        (below-more (λ k. start ≤ k → cell labels (cell w q) ≤ cell labels (cell w k)) i l (λ s. c .0)),
   )
 
 add-i : tie.Need-add-i Inv-loop μ-loop

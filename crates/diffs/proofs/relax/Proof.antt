@@ -7,7 +7,7 @@ use Prim.Native.Nat.{ℕ, _+_, _-_, _<_, _≤_}
 use native.Mathlib.Omega.{arith}
 use lib.IntN.{ℤ}
 use lib.ListN.{set, getD}
-use Rattle.diffs.specs.Steps.{up, down, Relaxed}
+use Rattle.diffs.specs.inner.Steps.{up, down, Relaxed}
 use Rattle.diffs.proofs.Signs.{back32, up-small, down-small}
 use Rattle.diffs.proofs.relax.Statement.{statement}
 use Rattle.diffs.proofs.relax.Tie as tie

@@ -6,15 +6,15 @@ use Prim.Native.Nat.{ℕ, _-_, _≤_}
 use native.Mathlib.Omega.{arith}
 use lib.ListN.{length, getD}
 use lib.IntN.{pos}
-use Rattle.diffs.specs.Answer.{diffAt}
-use Rattle.diffs.specs.Steps.{Mid, Passed}
+use Rattle.diffs.specs.inner.Answer.{diffAt}
+use Rattle.diffs.specs.inner.Steps.{Mid, RoundUpTo}
 use Rattle.diffs.proofs.Signs.{back32, down-small}
 use Rattle.diffs.proofs.Rounds.{room, begin, stepped}
 use Rattle.diffs.proofs.round.Statement.{statement}
 use Rattle.diffs.proofs.round.Tie as tie
 
 abbrev Inv-loop : tie.InvT-loop
-Inv-loop xs ys ks t₀ p₀ last₀ i₀ t p last i = (i ≤ length ks) × Passed (length ks) (length t₀) (diffAt xs ys ks) i last t₀ p₀ t p
+Inv-loop xs ys ks t₀ p₀ last₀ i₀ t p last i = (i ≤ length ks) × RoundUpTo (length ks) (length t₀) (diffAt xs ys ks) i last t₀ p₀ t p
 
 abbrev μ-loop : tie.MeasureT-loop
 μ-loop xs ys ks t₀ p₀ last₀ i₀ t p last i = length ks - i
@@ -53,7 +53,7 @@ relax-requires : tie.Need-relax-requires Inv-loop μ-loop
 relax-requires c κs =
     let u = c .before .before .before .before .before .before .before .before .before .before .before .pre in
     let l = c .before .before .before .before .before .before .loop in
-    let v = l .inv .1 (u .r) (u .before) (u .between) in
+    let v = l .inv .1 (u .r) (u .before) (u .state) in
     let h = u .slices .named (l .i) (c .before .before .before .before .before .loop-test .taken) in
     let f = room _ _ _ _ _ _ _ _ v (omega (arith, u .early, u .names)) (u .slices .few) (omega arith) in
     ((omega (arith, h .0, v .times), omega (arith, h .1, v .times), omega (arith, v .times, v .parents)), (f _, f _))
@@ -85,12 +85,12 @@ loop-again c =
 same-length : tie.Need-same-length Inv-loop μ-loop
 same-length c =
     let u = c .before .before .before .before .before .before .pre in
-    c .before .loop .inv .1 (u .r) (u .before) (u .between) .times
+    c .before .loop .inv .1 (u .r) (u .before) (u .state) .times
 
 same-length-2 : tie.Need-same-length-2 Inv-loop μ-loop
 same-length-2 c =
     let u = c .before .before .before .before .before .before .pre in
-    c .before .loop .inv .1 (u .r) (u .before) (u .between) .parents ∙ sym (u .between .parents)
+    c .before .loop .inv .1 (u .r) (u .before) (u .state) .parents ∙ sym (u .state .parents)
 
 returns : tie.Need-returns Inv-loop μ-loop
 returns c r b v =

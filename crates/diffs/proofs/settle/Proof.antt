@@ -4,14 +4,14 @@ use mathlib.Core.Logic.{inl, inr}
 use Prim.Native.Nat.{_+_, _-_, _≤_}
 use native.Mathlib.Omega.{arith}
 use lib.ListN.{length}
-use Rattle.diffs.specs.Answer.{diffAt}
-use Rattle.diffs.specs.Steps.{Between}
+use Rattle.diffs.specs.inner.Answer.{diffAt}
+use Rattle.diffs.specs.inner.Steps.{BeforeRound}
 use Rattle.diffs.proofs.Rounds.{first, quiet, next, stuck, underway, rounded}
 use Rattle.diffs.proofs.settle.Statement.{statement}
 use Rattle.diffs.proofs.settle.Tie as tie
 
 abbrev Inv-loop : tie.InvT-loop
-Inv-loop xs ys ks t₀ p₀ n last₀ r₀ t p last r = (r ≤ n + 1) × Between (length ks) n (diffAt xs ys ks) r last t p
+Inv-loop xs ys ks t₀ p₀ n last₀ r₀ t p last r = (r ≤ n + 1) × BeforeRound (length ks) n (diffAt xs ys ks) r last t p
 
 abbrev μ-loop : tie.MeasureT-loop
 μ-loop xs ys ks t₀ p₀ n last₀ r₀ t p last r = n + 1 - r

@@ -10,7 +10,7 @@ use mir.Syntax.{w32, w64}
 use mir.Val.{SFits, toZ, ofZ}
 use mir.Facts.{sfits-widen}
 use Rattle.diffs.specs.Diff.{Sum}
-use Rattle.diffs.specs.Answer.{at, diffAt}
+use Rattle.diffs.specs.inner.Answer.{cell, diffAt}
 use Rattle.diffs.proofs.Signs.{back32, back64}
 use Rattle.diffs.proofs.Summing.{Summed, begun, fits-sum, summed-more}
 use Rattle.diffs.proofs.sum_of.Statement.{statement}
@@ -23,10 +23,10 @@ abbrev μ-loop : tie.MeasureT-loop
 μ-loop ks w start end sum₀ i₀ sum i = i
 
 module _ (c : tie.After-k Inv-loop μ-loop) where
-  small : SFits w32 (getD (c .before .before .before .before .args .ks .now) (at (c .before .before .before .before .args .w .now) (c .before .before .before .loop .i - 1)) (pos 0))
+  small : SFits w32 (getD (c .before .before .before .before .args .ks .now) (cell (c .before .before .before .before .args .w .now) (c .before .before .before .loop .i - 1)) (pos 0))
   small = record { sfits = c .k .given }
 
-  wide : toZ w64 (ofZ w64 (toZ w32 (ofZ w32 (getD (c .before .before .before .before .args .ks .now) (at (c .before .before .before .before .args .w .now) (c .before .before .before .loop .i - 1)) (pos 0))))) ≡ getD (c .before .before .before .before .args .ks .now) (at (c .before .before .before .before .args .w .now) (c .before .before .before .loop .i - 1)) (pos 0)
+  wide : toZ w64 (ofZ w64 (toZ w32 (ofZ w32 (getD (c .before .before .before .before .args .ks .now) (cell (c .before .before .before .before .args .w .now) (c .before .before .before .loop .i - 1)) (pos 0))))) ≡ getD (c .before .before .before .before .args .ks .now) (cell (c .before .before .before .before .args .w .now) (c .before .before .before .loop .i - 1)) (pos 0)
   wide = back64 small
 
 loop-holds : tie.Need-loop-holds Inv-loop μ-loop

@@ -4,8 +4,8 @@ use Prim.Native.Nat.{ℕ, _-_, _<_, _≤_}
 use native.Mathlib.Omega.{arith}
 use lib.ListN.{length, drop, length-set}
 use mir.Facts.{toZ-ofZ}
-use Rattle.diffs.specs.Answer.{at, diffAt}
-use Rattle.diffs.specs.Steps.{Numbers}
+use Rattle.diffs.specs.inner.Answer.{cell, diffAt}
+use Rattle.diffs.specs.inner.Steps.{Numbers}
 use Rattle.diffs.proofs.Tracing.{Tracing, started-at, number-at, twice-at, room-left, parent-at, onward-at}
 use Rattle.diffs.proofs.trace.Statement.{statement}
 use Rattle.diffs.proofs.trace.Tie as tie
@@ -30,13 +30,13 @@ module _ (c : tie.Then1 Inv-loop μ-loop) where
 
 -- a is a new name
 module _ (c : tie.Else1 Inv-loop μ-loop) where
-  unseen : (k : ℕ) → c .before .before .before .loop .start ≤ k → k < length (c .before .before .before .loop .w) → at (c .before .before .before .before .before .before .before .before .args .ys .now) (at (c .before .before .before .loop .w) k) ≡ c .before .before .before .loop .a → ⊥
+  unseen : (k : ℕ) → c .before .before .before .loop .start ≤ k → k < length (c .before .before .before .loop .w) → cell (c .before .before .before .before .before .before .before .before .args .ys .now) (cell (c .before .before .before .loop .w) k) ≡ c .before .before .before .loop .a → ⊥
   unseen k h j = c .before .find .ensures .unseen k h (omega (arith, c .before .find .ensures .upto))
 
   left : 1 ≤ c .before .before .before .loop .start
   left = room-left _ _ _ _ _ _ _ _ (c .before .before .before .loop .inv .0) (c .before .before .before .loop .inv .2) unseen (omega (arith, c .before .before .before .before .before .before .before .before .pre .room))
 
-  below : at (c .before .before .before .before .before .before .before .before .args .p .now) (c .before .before .before .loop .a) < length (c .before .before .before .before .before .before .before .before .args .ks .now)
+  below : cell (c .before .before .before .before .before .before .before .before .args .p .now) (c .before .before .before .loop .a) < length (c .before .before .before .before .before .before .before .before .args .ks .now)
   below = parent-at _ _ _ _ _ _ _ _ (c .before .before .before .loop .inv .0) (c .before .before .before .loop .inv .2) unseen
 
 loop-holds : tie.Need-loop-holds Inv-loop μ-loop
@@ -93,7 +93,7 @@ shared-slice-read-a : tie.Need-shared-slice-read-a Inv-loop μ-loop
 shared-slice-read-a c = omega (arith, below (c .before .before), c .before .before .before .before .before .before .before .before .before .before .pre .slices .xs-length)
 
 cast-a-2 : tie.Need-cast-a-2 Inv-loop μ-loop
-cast-a-2 c = omega (arith, c .shared-slice-known5 .given (at (c .before .before .before .before .before .before .before .before .before .before .args .p .now) (c .before .before .before .before .before .loop .a)))
+cast-a-2 c = omega (arith, c .shared-slice-known5 .given (cell (c .before .before .before .before .before .before .before .before .before .before .args .p .now) (c .before .before .before .before .before .loop .a)))
 
 loop-less : tie.Need-loop-less Inv-loop μ-loop
 loop-less c = omega (arith, left (c .before .before))

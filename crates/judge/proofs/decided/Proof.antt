@@ -1,8 +1,14 @@
 -- `judge::decided` meets its contract: each step is a refusal, or what the next one needs. Assumes nothing.
-use mathlib.Core.Path.{sym, _∙_}
+use Prim.Native.Nat.{ℕ}
+use mathlib.Core.Path.{refl, sym, ap, _∙_}
+use mathlib.Core.List.{List, []}
 use native.Mathlib.Omega.{arith}
+use Rattle.faults.specs.inner.Places.{atomPlaces}
+use Rattle.faults.specs.Answer.{mapped}
 use Rattle.aspif.proofs.Candidates.{blank-zeros}
-use Rattle.terms.proofs.Witness.{new-room, new-marks}
+use Rattle.terms.specs.Terms.{Stated}
+use Rattle.terms.proofs.Walks.{new-room}
+use Rattle.terms.proofs.Marking.{marks-zeros}
 use Rattle.judge.specs.Plan.{asked}
 use Rattle.judge.specs.Judged.{unreadable, ready, broken, whole, unfounded, founded}
 use Rattle.judge.specs.Values.{rooms}
@@ -24,7 +30,7 @@ enum-told : tie.Need-enum-told
 enum-told c = search needs
 
 refusal-requires : tie.Need-refusal-requires
-refusal-requires c κs = search needs
+refusal-requires c κs = rw (c .enum-told .given .1)
 
 same-length : tie.Need-same-length
 same-length c = search needs
@@ -32,8 +38,8 @@ same-length c = search needs
 returns : tie.Need-returns
 returns c =
     let pre = c .before .before .before .before .before .before .before .before .before .before .before .before .pre in
-    let e = rw (c .before .enum-told .given .1) at (c .before .before .before .before .before .read .ensures .1 .0) in
-    unreadable _ _ (unread _ _ (pre .2) (omega (arith, pre .0, pre .1)) _ _ (sym e)) (rw (c .refusal .ensures, c .before .enum-told .given .1))
+    let e = rw (c .refusal .ensures) at (c .before .before .before .before .before .read .ensures .1 .0) in
+    unreadable _ _ (unread _ _ (pre .2) (omega (arith, pre .0, pre .1)) _ _ (sym e)) refl
 
 slice-aggregate-collect : tie.Need-slice-aggregate-collect
 slice-aggregate-collect c = search needs
@@ -57,7 +63,7 @@ enum-told-2 : tie.Need-enum-told-2
 enum-told-2 c = search needs
 
 refusal-requires-2 : tie.Need-refusal-requires-2
-refusal-requires-2 c κs = search needs
+refusal-requires-2 c κs = rw (c .enum-told2 .given .1)
 
 same-length-2 : tie.Need-same-length-2
 same-length-2 c = search needs
@@ -66,8 +72,8 @@ returns-2 : tie.Need-returns-2
 returns-2 c =
     let pre = c .before .before .before .before .before .before .before .before .before .before .before .before .before .before .before .before .before .before .before .before .before .before .before .before .before .pre in
     let e = rw (c .before .before .before .before .before .before .before .before .before .before .before .before .before .before .a .given .1) at (c .before .before .before .before .before .before .before .before .before .before .before .before .before .before .before .before .before .before .read .ensures .1 .0) in
-    let d = rw (c .before .enum-told2 .given .1) at (c .before .before .before .before .before .before .before .collect .ensures) in
-    unreadable _ _ (unsound _ _ (pre .2) (omega (arith, pre .0, pre .1)) _ (sym e) _ _ (sym d)) (rw (c .refusal2 .ensures, c .before .enum-told2 .given .1))
+    let d = sym (ap (mapped {A = ℕ} {B = List Stated} (λ n. [])) (rw (c .before .enum-told2 .given .1) at (c .refusal2 .ensures))) ∙ (rw (c .before .enum-told2 .given .1) at (c .before .before .before .before .before .before .before .collect .ensures)) in
+    unreadable _ _ (unsound _ _ (pre .2) (omega (arith, pre .0, pre .1)) _ (sym e) _ _ (sym d)) refl
 
 slice-aggregate-candidate : tie.Need-slice-aggregate-candidate
 slice-aggregate-candidate c = search needs
@@ -82,7 +88,7 @@ enum-told-4 : tie.Need-enum-told-4
 enum-told-4 c = search needs
 
 refusal-requires-3 : tie.Need-refusal-requires-3
-refusal-requires-3 c κs = search needs
+refusal-requires-3 c κs = λ x. rw (c .enum-told4 .given .1)
 
 same-length-3 : tie.Need-same-length-3
 same-length-3 c = c .before .before .before .before .before .before .before .before .before .before .before .before .before .before .before .before .before .before .before .before .before .before .before .before .read .kept .1 .0
@@ -96,8 +102,7 @@ returns-3 c =
     let the-b = c .before .before .before .before .before .before .before .b in
     let k = collect .kept in
     let p = passed (asked (s .args .text .now) (s .args .cand .now)) (rooms (s .args .room .now) (s .args .cycle .now)) {ks = collect .last .1 .1 .1 .1 .1 .0} (s .pre) (read .kept .1 .0) (rw (the-a .given .1) at (read .ensures .1 .0)) (rw (the-a .given .1) at (read .ensures .1 .1)) (rw (the-b .given .1) at (collect .ensures)) (still-roomy new-room (k .1 .1 .0) (k .1 .1 .1 .0) (k .1 .1 .1 .1 .0) (k .1 .1 .1 .1 .1 .0)) in
-    let e = rw (c .before .enum-told4 .given .1) at (c .before .before .before .before .candidate .ensures) in
-    unreadable _ _ (p .decides ∙ pair-refused _ _ _ _ e) (rw (c .refusal3 .ensures, c .before .enum-told4 .given .1))
+    unreadable _ _ (p .decides ∙ pair-refused _ _ _ _ (sym (c .refusal3 .ensures _) ∙ c .before .before .before .before .candidate .ensures)) refl
 
 slice-aggregate-first-broken : tie.Need-slice-aggregate-first-broken
 slice-aggregate-first-broken c = search needs
@@ -152,7 +157,7 @@ externals-requires c κs =
     let the-b = c .before .before .before .before .before .before .before .before .before .before .before .before .before .before .b in
     let k = collect .kept in
     let p = passed (asked (s .args .text .now) (s .args .cand .now)) (rooms (s .args .room .now) (s .args .cycle .now)) {ks = collect .last .1 .1 .1 .1 .1 .0} (s .pre) (read .kept .1 .0) (rw (the-a .given .1) at (read .ensures .1 .0)) (rw (the-a .given .1) at (read .ensures .1 .1)) (rw (the-b .given .1) at (collect .ensures)) (still-roomy new-room (k .1 .1 .0) (k .1 .1 .1 .0) (k .1 .1 .1 .1 .0) (k .1 .1 .1 .1 .1 .0)) in
-    (p .taped, omega (arith, stating-filled _ _ _ _ _ _ (p .stating) .few, p .stating .roomy .for-atoms), new-marks 4097)
+    (p .taped, omega (arith, stating-filled _ _ _ _ _ _ (p .stating) .few, p .stating .roomy .for-atoms), marks-zeros atomPlaces)
 
 slice-aggregate-smallest-unfounded : tie.Need-slice-aggregate-smallest-unfounded
 slice-aggregate-smallest-unfounded c = search needs

@@ -2,6 +2,7 @@
 use borrow.Author.Needs.{needs}
 use borrow.Author.Tests.{lt-ltb, le-ltb}
 use native.Mathlib.Omega.{arith}
+use Rattle.faults.specs.Limits.{cycleRoom, longestText, tableRoom}
 use Rattle.judge.specs.Plan.{lent, legible, readable}
 use Rattle.judge.specs.Judged.{unreadable}
 use Rattle.judge.proofs.judge.Statement.{statement}
@@ -12,21 +13,21 @@ refuse-requires c κs = search needs
 
 returns : tie.Need-returns
 unfolding readable lent
-returns c = unreadable 1 24592 (rw (lt-ltb _ _ (c .before .if1 .taken))) (rw (c .refuse .ensures))
+returns c = unreadable 1 tableRoom (rw (lt-ltb _ _ (c .before .if1 .taken))) (rw (c .refuse .ensures))
 
 refuse-requires-2 : tie.Need-refuse-requires-2
 refuse-requires-2 c κs = search needs
 
 returns-2 : tie.Need-returns-2
 unfolding readable lent
-returns-2 c = unreadable 1 1024 (rw (le-ltb _ _ (c .before .before .if1 .left), lt-ltb _ _ (c .before .if2 .taken))) (rw (c .refuse2 .ensures))
+returns-2 c = unreadable 1 cycleRoom (rw (le-ltb _ _ (c .before .before .if1 .left), lt-ltb _ _ (c .before .if2 .taken))) (rw (c .refuse2 .ensures))
 
 refuse-requires-3 : tie.Need-refuse-requires-3
 refuse-requires-3 c κs = search needs
 
 returns-3 : tie.Need-returns-3
 unfolding readable lent legible
-returns-3 c = unreadable 2 60000 (rw (le-ltb _ _ (c .before .before .before .if1 .left), le-ltb _ _ (c .before .before .if2 .left), lt-ltb _ _ (c .before .if3 .taken))) (rw (c .refuse3 .ensures))
+returns-3 c = unreadable 2 longestText (rw (le-ltb _ _ (c .before .before .before .if1 .left), le-ltb _ _ (c .before .before .if2 .left), lt-ltb _ _ (c .before .if3 .taken))) (rw (c .refuse3 .ensures))
 
 slice-aggregate-decided : tie.Need-slice-aggregate-decided
 slice-aggregate-decided c = search needs

@@ -19,12 +19,6 @@ cast-print-decimal c = search needs
 print-decimal-requires : tie.Need-print-decimal-requires Inv-loop μ-loop
 print-decimal-requires c κs = search needs
 
-add-i : tie.Need-add-i Inv-loop μ-loop
-add-i c = search needs
-
-loop-holds : tie.Need-loop-holds Inv-loop μ-loop
-loop-holds c = search needs
-
 word-at-requires-2 : tie.Need-word-at-requires-2 Inv-loop μ-loop
 word-at-requires-2 c κs = search needs
 
@@ -33,6 +27,21 @@ cast-print-next c = search needs
 
 print-next-requires : tie.Need-print-next-requires Inv-loop μ-loop
 print-next-requires c κs = search needs
+
+add-i : tie.Need-add-i Inv-loop μ-loop
+add-i c = search needs
+
+loop-holds : tie.Need-loop-holds Inv-loop μ-loop
+loop-holds c = search needs
+
+word-at-requires-3 : tie.Need-word-at-requires-3 Inv-loop μ-loop
+word-at-requires-3 c κs = search needs
+
+cast-print-next-2 : tie.Need-cast-print-next-2 Inv-loop μ-loop
+cast-print-next-2 c = search needs
+
+print-next-requires-2 : tie.Need-print-next-requires-2 Inv-loop μ-loop
+print-next-requires-2 c κs = search needs
 
 add-i-2 : tie.Need-add-i-2 Inv-loop μ-loop
 add-i-2 c = search needs
@@ -61,11 +70,14 @@ print-line-spec =
     word-at-requires
     cast-print-decimal
     print-decimal-requires
-    add-i
-    loop-holds
     word-at-requires-2
     cast-print-next
     print-next-requires
+    add-i
+    loop-holds
+    word-at-requires-3
+    cast-print-next-2
+    print-next-requires-2
     add-i-2
     loop-less
     loop-again

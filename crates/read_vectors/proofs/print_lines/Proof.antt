@@ -1,13 +1,13 @@
 -- `print_lines`: the lines that are left stand within the tape. Assumes nothing.
-use Rattle.aspif.specs.Words.{Within}
-use Rattle.aspif.proofs.Walking.{within-starts, within-next}
+use Rattle.aspif.specs.inner.Kept.{Ahead}
+use Rattle.aspif.proofs.Walking.{ahead-starts, ahead-next}
 use native.Mathlib.Omega.{arith}
 use borrow.Author.Needs.{needs}
 use Rattle.read_vectors.proofs.print_lines.Statement.{statement}
 use Rattle.read_vectors.proofs.print_lines.Tie as tie
 
 abbrev Inv-loop : tie.InvT-loop
-Inv-loop tape n p₀ left₀ p left = Within tape p left
+Inv-loop tape n p₀ left₀ p left = Ahead tape p left
 
 abbrev μ-loop : tie.MeasureT-loop
 μ-loop tape n p₀ left₀ p left = left
@@ -31,10 +31,10 @@ loop-holds : tie.Need-loop-holds Inv-loop μ-loop
 loop-holds c = search needs
 
 after-at-requires : tie.Need-after-at-requires Inv-loop μ-loop
-after-at-requires c κs = within-starts _ _ _ (c .before .loop .inv)
+after-at-requires c κs = ahead-starts _ _ _ (c .before .loop .inv)
 
 print-line-requires : tie.Need-print-line-requires Inv-loop μ-loop
-print-line-requires c κs = within-starts _ _ _ (c .before .before .loop .inv)
+print-line-requires c κs = ahead-starts _ _ _ (c .before .before .loop .inv)
 
 sub-left : tie.Need-sub-left Inv-loop μ-loop
 sub-left c = search needs
@@ -43,7 +43,7 @@ loop-less : tie.Need-loop-less Inv-loop μ-loop
 loop-less c = search needs
 
 loop-again : tie.Need-loop-again Inv-loop μ-loop
-loop-again c = rw (c .before .after-at .ensures) (within-next _ _ _ (omega arith) (c .before .before .before .loop .inv))
+loop-again c = rw (c .before .after-at .ensures) (ahead-next _ _ _ (omega arith) (c .before .before .before .loop .inv) .1)
 
 returns : tie.Need-returns Inv-loop μ-loop
 returns c = search needs

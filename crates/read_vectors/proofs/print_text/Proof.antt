@@ -16,7 +16,7 @@ slice-aggregate-print-lines : tie.Need-slice-aggregate-print-lines
 slice-aggregate-print-lines c = search needs
 
 print-lines-requires : tie.Need-print-lines-requires
-print-lines-requires c κs = (rw (c .before .before .a .given .1) at (c .before .before .before .before .before .read .ensures .1 .1)) .within
+print-lines-requires c κs = (rw (c .before .before .a .given .1) at (c .before .before .before .before .before .read .ensures .1 .1))
 
 enum-known-a-2 : tie.Need-enum-known-a-2
 enum-known-a-2 c = search needs

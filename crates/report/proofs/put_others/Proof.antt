@@ -2,14 +2,14 @@
 use borrow.Author.Needs.{needs}
 use Prim.Native.Nat.{_-_}
 use lib.ListN.{length, drop}
-use Rattle.report.specs.Report.{nexts}
+use Rattle.report.specs.Report.{spacedAll}
 use Rattle.report.proofs.Putting.{Rest, rest-all, rest-fits, rest-step, rest-none, fits-first}
 use Rattle.report.proofs.Listing.{nexts-more, nexts-none}
 use Rattle.report.proofs.put_others.Statement.{statement}
 use Rattle.report.proofs.put_others.Tie as tie
 
 abbrev Inv-loop : tie.InvT-loop
-Inv-loop out₀ at list end₀ i₀ out end i = Rest (nexts (drop i list)) (nexts (drop 1 list)) out₀ at out end
+Inv-loop out₀ at list end₀ i₀ out end i = Rest (spacedAll (drop i list)) (spacedAll (drop 1 list)) out₀ at out end
 
 abbrev μ-loop : tie.MeasureT-loop
 μ-loop out₀ at list end₀ i₀ out end i = length list - i

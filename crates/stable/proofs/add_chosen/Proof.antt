@@ -12,20 +12,20 @@ Inv-loop tape at x found₀ left₀ p₀ added₀ found left p added = Walk x ta
 abbrev μ-loop : tie.MeasureT-loop
 μ-loop tape at x found₀ left₀ p₀ added₀ found left p added = left
 
-word-at-requires : tie.Need-word-at-requires Inv-loop μ-loop
-word-at-requires c κs = search needs
+count-at-requires : tie.Need-count-at-requires Inv-loop μ-loop
+count-at-requires c κs = search needs
 
 add-p : tie.Need-add-p Inv-loop μ-loop
 add-p c = omega (arith, c .before .before .before .before .pre .0)
 
 loop-holds : tie.Need-loop-holds Inv-loop μ-loop
-loop-holds c = start (c .before .before .before .before .pre .0) (c .before .before .before .before .pre .1 .0) (c .before .before .before .before .pre .1 .1 .1) (c .word-at .ensures .0)
+loop-holds c = start (c .before .before .before .before .pre .0) (c .before .before .before .before .pre .1 .0) (c .before .before .before .before .pre .1 .1 .1) (c .count-at .ensures)
 
-mul-a : tie.Need-mul-a Inv-loop μ-loop
-mul-a c = omega (arith, here (c .before .loop .inv) (c .loop-test .taken))
+mul-w : tie.Need-mul-w Inv-loop μ-loop
+mul-w c = omega (arith, here (c .before .loop .inv) (c .loop-test .taken))
 
-shared-slice-read-a : tie.Need-shared-slice-read-a Inv-loop μ-loop
-shared-slice-read-a c = here (c .before .before .loop .inv) (c .before .loop-test .taken)
+shared-slice-read-w : tie.Need-shared-slice-read-w Inv-loop μ-loop
+shared-slice-read-w c = here (c .before .before .loop .inv) (c .before .loop-test .taken)
 
 cast-a : tie.Need-cast-a Inv-loop μ-loop
 cast-a c = omega (arith, c .shared-slice-known3 .given (c .before .before .loop .p))
@@ -67,11 +67,11 @@ add-chosen-spec =
     (tie.spec
     Inv-loop
     μ-loop
-    word-at-requires
+    count-at-requires
     add-p
     loop-holds
-    mul-a
-    shared-slice-read-a
+    mul-w
+    shared-slice-read-w
     cast-a
     shared-slice-read-if1
     mark-requires

@@ -1,34 +1,31 @@
 -- `add_single`: an empty head adds nothing, a single one its atom. Assumes nothing.
-use Prim.Native.Nat.{_+_}
 use native.Mathlib.Omega.{arith}
 use borrow.Author.Needs.{needs}
 use Rattle.stable.proofs.Heads.{none-added, one-added, atom}
+use Rattle.stable.proofs.Lines.{read-word}
 use Rattle.stable.proofs.add_single.Statement.{statement}
 use Rattle.stable.proofs.add_single.Tie as tie
 
-word-at-requires : tie.Need-word-at-requires
-word-at-requires c κs = search needs
+count-at-requires : tie.Need-count-at-requires
+count-at-requires c κs = search needs
 
 returns : tie.Need-returns
-returns c = none-added (c .before .before .before .before .args .tape .now) (c .before .before .before .before .args .at) (c .before .word-at .ensures .0) (c .if1 .taken)
+returns c = none-added (c .before .before .before .before .args .tape .now) (c .before .before .before .before .args .at) (c .before .count-at .ensures) (c .if1 .taken)
 
-add-a : tie.Need-add-a
-add-a c = search needs
+add-w : tie.Need-add-w
+add-w c = search needs
 
-mul-a : tie.Need-mul-a
-mul-a c = search needs
+mul-w : tie.Need-mul-w
+mul-w c = search needs
 
-shared-slice-read-a : tie.Need-shared-slice-read-a
-shared-slice-read-a c = search needs
-
-cast-a : tie.Need-cast-a
-cast-a c = omega (arith, c .shared-slice-known2 .given (c .before .before .before .before .before .args .at + 1))
+shared-slice-read-w : tie.Need-shared-slice-read-w
+shared-slice-read-w c = search needs
 
 mark-requires : tie.Need-mark-requires
 mark-requires c κs =
     let args = c .before .before .before .before .before .before .args in
     let pre = c .before .before .before .before .before .before .pre in
-    omega (arith, atom (args .tape .now) (args .at) (c .before .before .before .word-at .ensures .0) (c .before .before .if1 .left) (pre .0) (pre .1 .0), pre .1 .1)
+    omega (arith, atom (args .tape .now) (args .at) (c .before .before .before .count-at .ensures) (c .before .before .if1 .left) (read-word _ _) (pre .1 .0), pre .1 .1)
 
 same-length : tie.Need-same-length
 same-length c = search needs
@@ -37,24 +34,20 @@ returns-2 : tie.Need-returns-2
 returns-2 c =
     let args = c .before .before .before .before .before .before .before .before .before .args in
     let pre = c .before .before .before .before .before .before .before .before .before .pre in
-    let word-at = c .before .before .before .before .before .before .word-at in
-    let if1 = c .before .before .before .before .before .if1 in
-    let t = args .tape .now in
-    let q = args .at in
-    let w = word-at .ensures .0 in
-    one-added t q w (if1 .left) (pre .0)
-    (omega (arith, atom t q w (if1 .left) (pre .0) (pre .1 .0), pre .1 .1)) (c .before .before .mark .ensures)
+    let count = c .before .before .before .before .before .before .count-at .ensures in
+    let some = c .before .before .before .before .before .if1 .left in
+    one-added (args .tape .now) (args .at) count some (read-word _ _)
+    (omega (arith, atom (args .tape .now) (args .at) count some (read-word _ _) (pre .1 .0), pre .1 .1)) (c .before .before .mark .ensures)
 
 pub add-single-spec : {M : Type 1} → statement M
 add-single-spec =
     tie.close
     (tie.spec
-    word-at-requires
+    count-at-requires
     returns
-    add-a
-    mul-a
-    shared-slice-read-a
-    cast-a
+    add-w
+    mul-w
+    shared-slice-read-w
     mark-requires
     same-length
     returns-2)

@@ -12,14 +12,14 @@ Inv-loop tape at x s left₀ p₀ left p = Walk x s tape at p left
 abbrev μ-loop : tie.MeasureT-loop
 μ-loop tape at x s left₀ p₀ left p = left
 
-word-at-requires : tie.Need-word-at-requires Inv-loop μ-loop
-word-at-requires c κs = search needs
+count-at-requires : tie.Need-count-at-requires Inv-loop μ-loop
+count-at-requires c κs = search needs
 
 add-p : tie.Need-add-p Inv-loop μ-loop
 add-p c = omega (arith, c .before .before .before .before .pre .0 .inside)
 
 loop-holds : tie.Need-loop-holds Inv-loop μ-loop
-loop-holds c = start (c .before .before .before .before .pre .0) (c .word-at .ensures .0)
+loop-holds c = start (c .before .before .before .before .pre .0) (c .count-at .ensures)
 
 mul-w : tie.Need-mul-w Inv-loop μ-loop
 mul-w c = omega (arith, here (c .before .loop .inv) (c .loop-test .taken))
@@ -67,7 +67,7 @@ body-true-spec =
     (tie.spec
     Inv-loop
     μ-loop
-    word-at-requires
+    count-at-requires
     add-p
     loop-holds
     mul-w

@@ -2,6 +2,7 @@
 use Prim.Native.Nat.{_-_}
 use native.Mathlib.Omega.{arith}
 use borrow.Author.Needs.{needs}
+use Rattle.faults.specs.inner.Places.{atomPlaces}
 use Rattle.stable.proofs.Filling.{Filled, start, fill, end}
 use Rattle.stable.proofs.facts.Statement.{statement}
 use Rattle.stable.proofs.facts.Tie as tie
@@ -10,7 +11,7 @@ abbrev Inv-loop : tie.InvT-loop
 Inv-loop ext x found₀ a₀ found a = Filled ext x found a
 
 abbrev μ-loop : tie.MeasureT-loop
-μ-loop ext x found₀ a₀ found a = 4097 - a
+μ-loop ext x found₀ a₀ found a = atomPlaces - a
 
 loop-holds : tie.Need-loop-holds Inv-loop μ-loop
 loop-holds c = start (c .before .before .before .pre .1 .1)

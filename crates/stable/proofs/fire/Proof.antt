@@ -2,27 +2,24 @@
 use native.Mathlib.Omega.{arith}
 use borrow.Author.Needs.{needs}
 use borrow.Author.Tests.{not-true, not-false}
-use Rattle.stable.proofs.Heads.{heads-inside, plain-small, choice-small, literals-at, idle, chosen, plain}
+use Rattle.stable.proofs.Heads.{heads-inside, plain-small, choice-small, literals-on, idle, chosen, plain}
 use Rattle.stable.proofs.fire.Statement.{statement}
 use Rattle.stable.proofs.fire.Tie as tie
 
-add-word-at : tie.Need-add-word-at
-add-word-at c = omega (arith, c .before .before .before .pre .0 .inside)
-
-word-at-requires : tie.Need-word-at-requires
-word-at-requires c κs = search needs
-
 add-h : tie.Need-add-h
-add-h c = omega (arith, c .before .before .before .before .pre .0 .inside)
+add-h c = omega (arith, c .before .before .before .pre .0 .body .inside)
+
+count-at-requires : tie.Need-count-at-requires
+count-at-requires c κs = search needs
 
 add-b : tie.Need-add-b
-add-b c = omega (arith, c .before .before .before .before .pre .0 .inside)
+add-b c = omega (arith, c .before .before .before .before .pre .0 .body .inside)
 
 add-b-2 : tie.Need-add-b-2
-add-b-2 c = omega (arith, c .before .before .before .before .pre .0 .inside, c .word-at .ensures .0)
+add-b-2 c = omega (arith, c .before .before .before .before .pre .0 .body .inside, c .count-at .ensures)
 
 body-true-requires : tie.Need-body-true-requires
-body-true-requires c κs = (literals-at (c .before .before .before .before .before .pre .0) (c .before .word-at .ensures .0), (c .before .before .before .before .before .pre .1 .0, c .before .before .before .before .before .pre .1 .1))
+body-true-requires c κs = (literals-on (c .before .before .before .before .before .pre .0) (c .before .count-at .ensures), (c .before .before .before .before .before .pre .1 .0, c .before .before .before .before .before .pre .1 .1))
 
 same-length : tie.Need-same-length
 same-length c = search needs
@@ -31,16 +28,16 @@ returns : tie.Need-returns
 returns c =
     let pre = c .before .before .before .before .before .before .before .pre in
     let args = c .before .before .before .before .before .before .before .args in
-    idle (pre .0) (c .before .before .before .word-at .ensures .0) (args .x .now) (args .found .now) (c .before .body-true .ensures) (not-true _ (c .if1 .taken))
+    idle (pre .0) (c .before .before .before .count-at .ensures) (args .x .now) (args .found .now) (c .before .body-true .ensures) (not-true _ (c .if1 .taken))
 
 add-if2 : tie.Need-add-if2
-add-if2 c = omega (arith, c .before .before .before .before .before .before .before .pre .0 .inside)
+add-if2 c = omega (arith, c .before .before .before .before .before .before .before .pre .0 .body .inside)
 
 mul-if2 : tie.Need-mul-if2
-mul-if2 c = omega (arith, c .before .before .before .before .before .before .before .pre .0 .inside)
+mul-if2 c = omega (arith, c .before .before .before .before .before .before .before .pre .0 .body .inside)
 
 shared-slice-read-if2 : tie.Need-shared-slice-read-if2
-shared-slice-read-if2 c = omega (arith, c .before .before .before .before .before .before .before .before .pre .0 .inside)
+shared-slice-read-if2 c = omega (arith, c .before .before .before .before .before .before .before .before .pre .0 .body .inside)
 
 add-chosen-requires : tie.Need-add-chosen-requires
 add-chosen-requires c κs =
@@ -54,11 +51,11 @@ returns-2 : tie.Need-returns-2
 returns-2 c =
     let pre = c .before .before .before .before .before .before .before .before .before .before .before .before .before .pre in
     let args = c .before .before .before .before .before .before .before .before .before .before .before .before .before .args in
-    let word-at = c .before .before .before .before .before .before .before .before .before .word-at in
+    let count-at = c .before .before .before .before .before .before .before .before .before .count-at in
     let body-true = c .before .before .before .before .before .before .before .body-true in
     let if1 = c .before .before .before .before .before .before .if1 in
     let if2 = c .before .before .before .before .if2 in
-    chosen (pre .0) (word-at .ensures .0) (args .x .now) (args .found .now) (body-true .ensures) (not-false _ (if1 .left)) (if2 .taken) (c .before .before .add-chosen .ensures)
+    chosen (pre .0) (count-at .ensures) (args .x .now) (args .found .now) (body-true .ensures) (not-false _ (if1 .left)) (if2 .taken) (c .before .before .add-chosen .ensures)
 
 add-single-requires : tie.Need-add-single-requires
 add-single-requires c κs =
@@ -72,19 +69,18 @@ returns-3 : tie.Need-returns-3
 returns-3 c =
     let pre = c .before .before .before .before .before .before .before .before .before .before .before .before .before .pre in
     let args = c .before .before .before .before .before .before .before .before .before .before .before .before .before .args in
-    let word-at = c .before .before .before .before .before .before .before .before .before .word-at in
+    let count-at = c .before .before .before .before .before .before .before .before .before .count-at in
     let body-true = c .before .before .before .before .before .before .before .body-true in
     let if1 = c .before .before .before .before .before .before .if1 in
     let if2 = c .before .before .before .before .if2 in
-    plain (pre .0) (word-at .ensures .0) (args .x .now) (args .found .now) (body-true .ensures) (not-false _ (if1 .left)) (if2 .left) (c .before .before .add-single .ensures)
+    plain (pre .0) (count-at .ensures) (args .x .now) (args .found .now) (body-true .ensures) (not-false _ (if1 .left)) (if2 .left) (c .before .before .add-single .ensures)
 
 pub fire-spec : {M : Type 1} → statement M
 fire-spec =
     tie.close
     (tie.spec
-    add-word-at
-    word-at-requires
     add-h
+    count-at-requires
     add-b
     add-b-2
     body-true-requires

@@ -1,6 +1,7 @@
 -- `first_broken`: the lines ahead have the first broken rule of all lines, since those passed are whole. Assumes nothing.
 use mathlib.Core.Logic.{⊎-elim}
 use native.Mathlib.Omega.{arith}
+use borrow.Author.Needs.{needs}
 use Rattle.basics.specs.inner.Bitmaps.{isMarked}
 use Rattle.stable.proofs.Breaking.{Passed, start, here, rule-here, broken-here, pass-whole, pass-other, end}
 use Rattle.stable.proofs.first_broken.Statement.{statement}
@@ -15,26 +16,23 @@ abbrev μ-loop : tie.MeasureT-loop
 loop-holds : tie.Need-loop-holds Inv-loop μ-loop
 loop-holds c = start (c .before .before .pre .0)
 
-mul-if1 : tie.Need-mul-if1 Inv-loop μ-loop
-mul-if1 c = omega (arith, here (c .before .loop .inv) (c .loop-test .taken))
+word-at-requires : tie.Need-word-at-requires Inv-loop μ-loop
+word-at-requires c κs = search needs
 
-shared-slice-read-if1 : tie.Need-shared-slice-read-if1 Inv-loop μ-loop
-shared-slice-read-if1 c = here (c .before .before .loop .inv) (c .before .loop-test .taken)
+add-q : tie.Need-add-q Inv-loop μ-loop
+add-q c = omega (arith, here (c .before .before .before .loop .inv) (c .before .before .loop-test .taken))
 
 is-broken-requires : tie.Need-is-broken-requires Inv-loop μ-loop
-is-broken-requires c κs = (rule-here (c .before .before .before .loop .inv) (c .before .before .loop-test .taken) (c .if1 .taken), c .before .before .before .before .before .before .pre .1)
+is-broken-requires c κs = (rule-here (c .before .before .before .loop .inv) (c .before .before .loop-test .taken) (c .before .word-at .ensures .0) (c .if1 .taken), c .before .before .before .before .before .before .pre .1)
 
-add-t11 : tie.Need-add-t11 Inv-loop μ-loop
-add-t11 c = omega (arith, here (c .before .before .before .before .before .loop .inv) (c .before .before .before .before .loop-test .taken))
+mul-place : tie.Need-mul-place Inv-loop μ-loop
+mul-place c = omega (arith, here (c .before .before .before .before .before .loop .inv) (c .before .before .before .before .loop-test .taken))
 
-mul-t12 : tie.Need-mul-t12 Inv-loop μ-loop
-mul-t12 c = omega (arith, here (c .before .before .before .before .before .loop .inv) (c .before .before .before .before .loop-test .taken))
-
-shared-slice-read-t14 : tie.Need-shared-slice-read-t14 Inv-loop μ-loop
-shared-slice-read-t14 c = omega (arith, rule-here (c .before .before .before .before .before .before .loop .inv) (c .before .before .before .before .before .loop-test .taken) (c .before .before .before .if1 .taken) .inside)
+shared-slice-read-place : tie.Need-shared-slice-read-place Inv-loop μ-loop
+shared-slice-read-place c = omega (arith, here (c .before .before .before .before .before .before .loop .inv) (c .before .before .before .before .before .loop-test .taken))
 
 returns : tie.Need-returns Inv-loop μ-loop
-returns c = broken-here (c .before .before .before .before .before .before .loop .inv) (c .before .before .before .before .before .loop-test .taken) (c .before .before .is-broken .ensures) (c .before .if2 .taken)
+returns c = broken-here (c .before .before .before .before .before .before .loop .inv) (c .before .before .before .before .before .loop-test .taken) (c .before .before .before .before .word-at .ensures .0) (c .before .before .before .if1 .taken) (c .before .before .is-broken .ensures) (c .before .if2 .taken)
 
 after-at-requires : tie.Need-after-at-requires Inv-loop μ-loop
 after-at-requires c κs = omega (arith, here (c .before .before .before .loop .inv) (c .before .before .loop-test .taken))
@@ -48,8 +46,8 @@ loop-less c = omega (arith, c .before .before .before .loop-test .taken)
 loop-again : tie.Need-loop-again Inv-loop μ-loop
 loop-again c =
     ⊎-elim
-    (λ w. pass-whole (c .before .before .before .before .loop .inv) (c .before .before .before .loop-test .taken) (w .1 .ensures) (w .2 .left) (c .after-at .ensures))
-    (λ w. pass-other (c .before .before .before .before .loop .inv) (c .before .before .before .loop-test .taken) (w .left) (c .after-at .ensures))
+    (λ w. pass-whole (c .before .before .before .before .loop .inv) (c .before .before .before .loop-test .taken) (c .before .before .word-at .ensures .0) (w .0 .taken) (w .1 .ensures) (w .2 .left) (c .after-at .ensures))
+    (λ w. pass-other (c .before .before .before .before .loop .inv) (c .before .before .before .loop-test .taken) (c .before .before .word-at .ensures .0) (w .left) (c .after-at .ensures))
     (c .before .if1 .came)
 
 returns-2 : tie.Need-returns-2 Inv-loop μ-loop
@@ -62,12 +60,11 @@ first-broken-spec =
     Inv-loop
     μ-loop
     loop-holds
-    mul-if1
-    shared-slice-read-if1
+    word-at-requires
+    add-q
     is-broken-requires
-    add-t11
-    mul-t12
-    shared-slice-read-t14
+    mul-place
+    shared-slice-read-place
     returns
     after-at-requires
     sub-left

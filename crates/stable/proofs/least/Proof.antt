@@ -3,8 +3,9 @@ use Prim.Native.Nat.{_-_, _+_, min}
 use mathlib.Core.Path.{_∙_}
 use native.Mathlib.Omega.{arith}
 use borrow.Author.Needs.{needs}
-use Rattle.stable.specs.Steps.{marked}
+use Rattle.stable.specs.inner.Steps.{markedCount}
 use Rattle.basics.specs.inner.Bitmaps.{isMarked}
+use Rattle.faults.specs.inner.Places.{atomPlaces}
 use Rattle.stable.proofs.Rounds.{Between, first, again, less, end-least}
 use Rattle.stable.proofs.least.Statement.{statement}
 use Rattle.stable.proofs.least.Tie as tie
@@ -13,7 +14,7 @@ abbrev Inv-loop : tie.InvT-loop
 Inv-loop tape index m ext x found₀ t₀ found t = Between (isMarked x) (isMarked ext) tape index m found t
 
 abbrev μ-loop : tie.MeasureT-loop
-μ-loop tape index m ext x found₀ t₀ found t = (4097 - marked found) + min t 1
+μ-loop tape index m ext x found₀ t₀ found t = (atomPlaces - markedCount found) + min t 1
 
 facts-requires : tie.Need-facts-requires Inv-loop μ-loop
 facts-requires c κs = search needs

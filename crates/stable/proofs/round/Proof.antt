@@ -15,14 +15,14 @@ abbrev μ-loop : tie.MeasureT-loop
 loop-holds : tie.Need-loop-holds Inv-loop μ-loop
 loop-holds c = start (c .before .before .before .before .pre .1 .1)
 
-mul-p : tie.Need-mul-p Inv-loop μ-loop
-mul-p c = omega (arith, c .before .before .before .before .before .before .pre .0 .long)
+mul-q : tie.Need-mul-q Inv-loop μ-loop
+mul-q c = omega (arith, c .before .before .before .before .before .before .pre .0 .long)
 
-shared-slice-read-p : tie.Need-shared-slice-read-p Inv-loop μ-loop
-shared-slice-read-p c = omega (arith, c .before .before .before .before .before .before .before .pre .0 .long, c .before .loop-test .taken)
+shared-slice-read-q : tie.Need-shared-slice-read-q Inv-loop μ-loop
+shared-slice-read-q c = omega (arith, c .before .before .before .before .before .before .before .pre .0 .long, c .before .loop-test .taken)
 
-cast-p : tie.Need-cast-p Inv-loop μ-loop
-cast-p c = omega (arith, c .shared-slice-known4 .given (c .before .before .loop .i))
+cast-q : tie.Need-cast-q Inv-loop μ-loop
+cast-q c = omega (arith, c .shared-slice-known4 .given (c .before .before .loop .i))
 
 fire-requires : tie.Need-fire-requires Inv-loop μ-loop
 fire-requires c κs =
@@ -55,9 +55,9 @@ round-spec =
     Inv-loop
     μ-loop
     loop-holds
-    mul-p
-    shared-slice-read-p
-    cast-p
+    mul-q
+    shared-slice-read-q
+    cast-q
     fire-requires
     add-t
     add-i

@@ -3,6 +3,7 @@ use Prim.Native.Nat.{_-_}
 use mathlib.Core.Logic.{⊎-elim}
 use native.Mathlib.Omega.{arith}
 use borrow.Author.Needs.{needs}
+use Rattle.faults.specs.inner.Places.{atomPlaces}
 use Rattle.stable.proofs.Seeking.{Seen, start, not-in, found-in, here, nowhere}
 use Rattle.stable.proofs.seek.Statement.{statement}
 use Rattle.stable.proofs.seek.Tie as tie
@@ -11,7 +12,7 @@ abbrev Inv-loop : tie.InvT-loop
 Inv-loop x found a₀ a = Seen x found a
 
 abbrev μ-loop : tie.MeasureT-loop
-μ-loop x found a₀ a = 4097 - a
+μ-loop x found a₀ a = atomPlaces - a
 
 loop-holds : tie.Need-loop-holds Inv-loop μ-loop
 loop-holds c = start

@@ -3,9 +3,10 @@ use Prim.Native.Nat.{ℕ}
 use mathlib.Core.Path.{_∙_}
 use borrow.Author.Needs.{needs}
 use lib.ListN.{length-replicate}
-use Rattle.stable.specs.Values.{asUnfounded}
-use Rattle.stable.proofs.Joining.{readable, answer}
-use Rattle.stable.proofs.Lines.{ahead-of}
+use Rattle.faults.specs.inner.Places.{atomPlaces}
+use Rattle.stable.specs.inner.Index.{indexPlaces}
+use Rattle.stable.specs.inner.Values.{asUnfounded}
+use Rattle.stable.proofs.Joining.{answer}
 use Rattle.stable.proofs.smallest_unfounded.Statement.{statement}
 use Rattle.stable.proofs.smallest_unfounded.Tie as tie
 
@@ -13,7 +14,7 @@ slice-aggregate-list-rules : tie.Need-slice-aggregate-list-rules
 slice-aggregate-list-rules c = search needs
 
 list-rules-requires : tie.Need-list-rules-requires
-list-rules-requires c κs = (ahead-of (c .before .before .before .before .pre .0), (c .before .before .before .before .pre .1 .0, length-replicate {A = ℕ} 12000 0))
+list-rules-requires c κs = (c .before .before .before .before .pre .0, (c .before .before .before .before .pre .1 .0, length-replicate {A = ℕ} indexPlaces 0))
 
 slice-aggregate-least : tie.Need-slice-aggregate-least
 slice-aggregate-least c = search needs
@@ -24,16 +25,16 @@ slice-aggregate-least-2 c = search needs
 least-requires : tie.Need-least-requires
 least-requires c κs =
     let pre = c .before .before .before .before .before .before .before .before .pre in
-    (readable (c .before .before .before .list-rules .ensures) (ahead-of (pre .0)), (pre .1 .1 .0, (pre .1 .1 .1, length-replicate {A = ℕ} 4097 0)))
+    (c .before .before .before .list-rules .ensures .readable, (pre .1 .1 .0, (pre .1 .1 .1, length-replicate {A = ℕ} atomPlaces 0)))
 
 slice-aggregate-seek : tie.Need-slice-aggregate-seek
 slice-aggregate-seek c = search needs
 
 seek-requires : tie.Need-seek-requires
-seek-requires c κs = (c .before .before .before .before .before .before .before .before .before .before .before .pre .1 .1 .1, c .before .before .least .kept .1 .1 .1 .1 .1 .0 ∙ length-replicate {A = ℕ} 4097 0)
+seek-requires c κs = (c .before .before .before .before .before .before .before .before .before .before .before .pre .1 .1 .1, c .before .before .least .kept .1 .1 .1 .1 .1 .0 ∙ length-replicate {A = ℕ} atomPlaces 0)
 
 returns : tie.Need-returns
-returns c = answer (c .before .before .before .before .before .before .before .list-rules .ensures) _ _ _ (asUnfounded (c .seek .result)) (c .before .before .before .least .ensures) (c .seek .ensures)
+returns c = answer (c .before .before .before .before .before .before .before .list-rules .ensures) _ _ _ (c .before .before .before .least .ensures) (asUnfounded (c .seek .result)) (c .seek .ensures)
 
 pub smallest-unfounded-spec : {M : Type 1} → statement M
 smallest-unfounded-spec =

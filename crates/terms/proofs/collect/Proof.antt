@@ -1,6 +1,6 @@
 -- `collect`: the tables begin blank.
-use mathlib.Core.Path.{refl}
-use Rattle.terms.proofs.Walks.{first-room, blank-zeros}
+use Rattle.terms.proofs.Walks.{zero-table, new-tables}
+use Rattle.faults.specs.inner.Places.{atomPlaces, termPlaces, elementPlaces}
 use borrow.Author.Needs.{needs}
 use Rattle.terms.proofs.collect.Statement.{statement}
 use Rattle.terms.proofs.collect.Tie as tie
@@ -17,7 +17,7 @@ slice-aggregate-take-all-3 c = search needs
 take-all-requires : tie.Need-take-all-requires
 take-all-requires c κs =
     let pre = c .before .before .before .before .before .before .before .before .before .before .before .pre in
-    (pre .0, ((blank-zeros 1024, blank-zeros 1024, blank-zeros 4097), first-room 1024 4097 refl refl _ _ _ _ (pre .1)))
+    (pre .0, ((zero-table termPlaces, zero-table elementPlaces, zero-table atomPlaces), (new-tables, pre .1)))
 
 same-length : tie.Need-same-length
 same-length c = search needs

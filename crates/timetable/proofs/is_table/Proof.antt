@@ -23,6 +23,9 @@ cast-m c = search needs
 word-at-requires-3 : tie.Need-word-at-requires-3
 word-at-requires-3 c κs = search needs
 
+cast-first : tie.Need-cast-first
+cast-first c = search needs
+
 word-at-requires-4 : tie.Need-word-at-requires-4
 word-at-requires-4 c κs = search needs
 
@@ -93,6 +96,7 @@ is-table-spec =
     word-at-requires-2
     cast-m
     word-at-requires-3
+    cast-first
     word-at-requires-4
     cast-second
     mul-at

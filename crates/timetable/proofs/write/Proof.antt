@@ -8,8 +8,8 @@ use native.Mathlib.Omega.{arith}
 use lib.ListN.{length, take, drop}
 use lib.Seq.{length-sets}
 use Rattle.basics.specs.inner.Bitmaps.{markedFrom}
-use Rattle.timetable.specs.Table.{headerBytes, recordBytes, atomBytes}
-use Rattle.timetable.specs.Given.{timeAt, recordsOf}
+use Rattle.timetable.specs.Table.{recordsOf, recordBytes, atomBytes, headerLength, headerBytes}
+use Rattle.timetable.specs.inner.Given.{timeAt}
 use Rattle.timetable.proofs.Stores.{part-stored}
 use Rattle.timetable.proofs.Writing.{table-stored}
 use Rattle.timetable.proofs.write.Statement.{statement}
@@ -81,16 +81,16 @@ returns c =
     let l = start .args .room .now in
     let n = counted .result in
     let m = counted₂ .result in
-    let at = 16 + 8 * n in
+    let at = headerLength + 8 * n in
     let records = recordBytes (recordsOf (markedFrom 0 names) (timeAt times)) in
     let r₁ = header .last .0 in
     let p₂ = c .before .before .before .before .before .before .write-names .last .0 in
     let p₃ = c .before .before .write-atoms .last .0 in
-    let r₂ = take 16 r₁ ++ (p₂ ++ drop (length r₁ - 16) (drop 16 r₁)) in
+    let r₂ = take headerLength r₁ ++ (p₂ ++ drop (length r₁ - headerLength) (drop headerLength r₁)) in
     let r₃ = take at r₂ ++ (p₃ ++ drop (length r₂ - at) (drop at r₂)) in
     let k₁ : length r₁ ≡ length l = ap length (header .ensures) ∙ length-sets l 0 (headerBytes n m) in
-    let s₂ = part-stored r₁ p₂ 16 records (omega arith) (c .before .before .before .before .before .before .write-names .ensures) in
-    let k₂ : length r₂ ≡ length r₁ = ap length s₂ ∙ length-sets r₁ 16 records in
+    let s₂ = part-stored r₁ p₂ headerLength records (omega arith) (c .before .before .before .before .before .before .write-names .ensures) in
+    let k₂ : length r₂ ≡ length r₁ = ap length s₂ ∙ length-sets r₁ headerLength records in
     let s₃ = part-stored r₂ p₃ at (atomBytes (markedFrom 1 atoms)) (omega arith) (c .before .before .write-atoms .ensures) in
     table-stored l r₁ r₂ r₃ names times atoms n m (start .pre .0 .room-long) (omega arith) (omega arith) (counted .ensures .0) (counted₂ .ensures .0) (header .ensures) s₂ s₃
 

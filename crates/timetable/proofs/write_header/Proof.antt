@@ -4,6 +4,9 @@ use Rattle.timetable.proofs.Writing.{header-stored}
 use Rattle.timetable.proofs.write_header.Statement.{statement}
 use Rattle.timetable.proofs.write_header.Tie as tie
 
+cast-first : tie.Need-cast-first
+cast-first c = search needs
+
 put-word-requires : tie.Need-put-word-requires
 put-word-requires c κs = search needs
 
@@ -36,6 +39,7 @@ pub write-header-spec : {M : Type 1} → statement M
 write-header-spec =
     tie.close
     (tie.spec
+    cast-first
     put-word-requires
     put-word-requires-2
     put-word-requires-3

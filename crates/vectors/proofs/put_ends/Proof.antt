@@ -7,7 +7,7 @@ use lib.ListN.{length, take, drop, length-take, length-drop}
 use lib.Seq.{sets, length-sets}
 use borrow.Author.Needs.{needs}
 use Rattle.timetable.proofs.Stores.{part-stored}
-use Rattle.vectors.specs.Long.{opening, closing}
+use Rattle.vectors.specs.inner.Long.{opening, closing}
 use Rattle.vectors.proofs.Ends.{copied-front}
 use Rattle.vectors.proofs.put_ends.Statement.{statement}
 use Rattle.vectors.proofs.put_ends.Tie as tie

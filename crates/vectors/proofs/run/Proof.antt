@@ -3,7 +3,7 @@ use Prim.Native.Nat.{_≤_, _-_}
 use lib.ListN.{length}
 use native.Mathlib.Omega.{arith}
 use borrow.Author.Needs.{needs}
-use Rattle.files.specs.Cases.{caseAt, nextAt}
+use Rattle.files.specs.inner.Cases.{caseAt, nextAt}
 use Rattle.files.proofs.Cases.{next-within, next-further, next-grows}
 use Rattle.vectors.proofs.run.Statement.{statement}
 use Rattle.vectors.proofs.run.Tie as tie

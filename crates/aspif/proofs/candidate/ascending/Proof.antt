@@ -5,17 +5,18 @@ use mathlib.Core.Path.{sym, ap, _∙_}
 use native.Mathlib.Omega.{arith}
 use lib.ListN.{length-set}
 use borrow.Author.Needs.{needs}
-use Rattle.fields.specs.Values.{asAtom, asPassed}
+use Rattle.faults.specs.Limits.{lastAtom}
+use Rattle.fields.specs.inner.Values.{asAtom, asPassed}
 use Rattle.aspif.specs.Candidate.{ascending}
 use Rattle.aspif.proofs.Candidates.{above-bounds, Marking, marking-start, marking-more, marking-out, marking-stop, marking-open, marking-last}
 use Rattle.aspif.proofs.candidate.ascending.Statement.{statement}
 use Rattle.aspif.proofs.candidate.ascending.Tie as tie
 
 abbrev Inv-loop : tie.InvT-loop
-Inv-loop s x₀ d₀ low₀ x d low = Marking s x low (d .at) (ascending 4096 0 s (d₀ .at))
+Inv-loop s x₀ d₀ low₀ x d low = Marking s x (low .0) (d .at) (ascending lastAtom 0 s (d₀ .at))
 
 abbrev μ-loop : tie.MeasureT-loop
-μ-loop s x₀ d₀ low₀ x d low = 4096 - low
+μ-loop s x₀ d₀ low₀ x d low = lastAtom - low .0
 
 loop-holds : tie.Need-loop-holds Inv-loop μ-loop
 loop-holds c = marking-start (c .before .before .pre)
@@ -30,19 +31,19 @@ enum-told : tie.Need-enum-told Inv-loop μ-loop
 enum-told c = search needs
 
 refusal-requires : tie.Need-refusal-requires Inv-loop μ-loop
-refusal-requires c κs = search needs
+refusal-requires c κs = rw (c .enum-told .given .1)
 
 same-length : tie.Need-same-length Inv-loop μ-loop
 same-length c = search needs
 
 returns : tie.Need-returns Inv-loop μ-loop
-returns c = rw (c .refusal .ensures, c .before .enum-told .given .1) (marking-stop (c .before .before .before .before .before .loop .inv) (c .before .before .before .before .loop-test .taken) (sym (ap asAtom (c .before .enum-told .given .1)) ∙ c .before .before .before .atom-above .ensures))
+returns c = marking-stop (c .before .before .before .before .before .before .loop .inv) (c .before .before .before .before .if1 .taken) (sym (c .refusal .ensures) ∙ c .before .before .before .atom-above .ensures)
 
 cast-i : tie.Need-cast-i Inv-loop μ-loop
 cast-i c = search needs
 
 slice-write-x : tie.Need-slice-write-x Inv-loop μ-loop
-slice-write-x c = omega (arith, above-bounds _ _ _ (sym (ap asAtom (c .before .before .a .given .1)) ∙ c .before .before .before .before .atom-above .ensures), c .before .before .before .before .before .before .loop .inv .places)
+slice-write-x c = omega (arith, above-bounds _ _ _ (sym (ap asAtom (c .before .before .a .given .1)) ∙ c .before .before .before .before .atom-above .ensures), c .before .before .before .before .before .before .before .loop .inv .places)
 
 byte-requires : tie.Need-byte-requires Inv-loop μ-loop
 byte-requires c κs = search needs
@@ -63,28 +64,22 @@ enum-told-4 : tie.Need-enum-told-4 Inv-loop μ-loop
 enum-told-4 c = search needs
 
 refusal-requires-2 : tie.Need-refusal-requires-2 Inv-loop μ-loop
-refusal-requires-2 c κs = search needs
+refusal-requires-2 c κs = rw (c .enum-told4 .given .1)
 
 same-length-2 : tie.Need-same-length-2 Inv-loop μ-loop
 same-length-2 c = simp length-set (omega arith)
 
 returns-2 : tie.Need-returns-2 Inv-loop μ-loop
 returns-2 c =
-    let loop = c .before .before .before .before .before .before .before .before .before .before .before .before .before .loop in
-    let loop-test = c .before .before .before .before .before .before .before .before .before .before .before .before .loop-test in
-    let atom-above = c .before .before .before .before .before .before .before .before .before .before .before .atom-above in
-    let the-a = c .before .before .before .before .before .before .before .before .before .a in
-    let byte = c .before .before .before .before .before .before .byte in
-    let told = c .before .before .before .before .enum-told2 in
-    rw (c .refusal2 .ensures, c .before .enum-told4 .given .1) (marking-open (loop .inv) (loop-test .taken) (sym (ap asAtom (the-a .given .1)) ∙ atom-above .ensures) (sym (ap asPassed (told .given .1)) ∙ byte .ensures) (sym (ap asPassed (c .before .enum-told4 .given .1)) ∙ c .before .before .before .ending .ensures))
+    marking-open (c .before .before .before .before .before .before .before .before .before .before .before .before .before .before .loop .inv) (c .before .before .before .before .before .before .before .before .before .before .before .before .if1 .taken) (sym (ap asAtom (c .before .before .before .before .before .before .before .before .before .a .given .1)) ∙ c .before .before .before .before .before .before .before .before .before .before .before .atom-above .ensures) (sym (ap asPassed (c .before .before .before .before .enum-told2 .given .1)) ∙ c .before .before .before .before .before .before .byte .ensures) (sym (c .refusal2 .ensures) ∙ c .before .before .before .ending .ensures)
 
 same-length-3 : tie.Need-same-length-3 Inv-loop μ-loop
 same-length-3 c = simp length-set (omega arith)
 
 returns-3 : tie.Need-returns-3 Inv-loop μ-loop
 returns-3 c =
-    let loop = c .before .before .before .before .before .before .before .before .before .before .before .before .loop in
-    let loop-test = c .before .before .before .before .before .before .before .before .before .before .before .loop-test in
+    let loop = c .before .before .before .before .before .before .before .before .before .before .before .before .before .loop in
+    let loop-test = c .before .before .before .before .before .before .before .before .before .before .before .if1 in
     let atom-above = c .before .before .before .before .before .before .before .before .before .before .atom-above in
     let the-a = c .before .before .before .before .before .before .before .before .a in
     let byte = c .before .before .before .before .before .byte in
@@ -96,8 +91,8 @@ loop-less c = omega (arith, above-bounds _ _ _ (sym (ap asAtom (c .before .befor
 
 loop-again : tie.Need-loop-again Inv-loop μ-loop
 loop-again c =
-    let loop = c .before .before .before .before .before .before .before .before .before .before .loop in
-    let loop-test = c .before .before .before .before .before .before .before .before .before .loop-test in
+    let loop = c .before .before .before .before .before .before .before .before .before .before .before .loop in
+    let loop-test = c .before .before .before .before .before .before .before .before .before .if1 in
     let atom-above = c .before .before .before .before .before .before .before .before .atom-above in
     let the-a = c .before .before .before .before .before .before .a in
     marking-more (loop .inv) (loop-test .taken) (sym (ap asAtom (the-a .given .1)) ∙ atom-above .ensures) (sym (ap asPassed (c .before .b .given .1)) ∙ c .before .before .before .byte .ensures)
@@ -109,7 +104,7 @@ same-length-4 : tie.Need-same-length-4 Inv-loop μ-loop
 same-length-4 c = search needs
 
 returns-4 : tie.Need-returns-4 Inv-loop μ-loop
-returns-4 c = rw (c .seven .ensures) (marking-out (c .before .before .loop .inv) (c .before .loop-test .left))
+returns-4 c = rw (c .seven .ensures) (marking-out (c .before .before .before .loop .inv) (c .before .if1 .left))
 
 pub ascending-spec : {M : Type 1} → statement M
 ascending-spec =

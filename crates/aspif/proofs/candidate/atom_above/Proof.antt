@@ -2,7 +2,7 @@
 use mathlib.Core.Path.{sym, ap, _∙_}
 use native.Mathlib.Omega.{arith}
 use borrow.Author.Needs.{needs}
-use Rattle.fields.specs.Values.{asWord}
+use Rattle.fields.specs.inner.Values.{asWord}
 use Rattle.aspif.proofs.Candidates.{above-refused, above-low, above-good}
 use Rattle.aspif.proofs.candidate.atom_above.Statement.{statement}
 use Rattle.aspif.proofs.candidate.atom_above.Tie as tie
@@ -26,10 +26,10 @@ seven-requires-2 : tie.Need-seven-requires-2
 seven-requires-2 c κs = search needs
 
 returns-2 : tie.Need-returns-2
-returns-2 c = rw (c .seven2 .ensures) (above-low _ _ _ (sym (ap asWord (c .before .before .before .a .given .1)) ∙ c .before .before .before .before .before .natural .ensures) (omega arith))
+returns-2 c = rw (c .seven2 .ensures) (above-low _ _ _ (sym (ap asWord (c .before .before .before .before .a .given .1)) ∙ c .before .before .before .before .before .before .natural .ensures) (omega arith))
 
 returns-3 : tie.Need-returns-3
-returns-3 c = above-good _ _ _ (sym (ap asWord (c .before .before .a .given .1)) ∙ c .before .before .before .before .natural .ensures) (omega arith)
+returns-3 c = above-good _ _ _ (sym (ap asWord (c .before .before .before .a .given .1)) ∙ c .before .before .before .before .before .natural .ensures) (omega arith)
 
 pub atom-above-spec : {M : Type 1} → statement M
 atom-above-spec =

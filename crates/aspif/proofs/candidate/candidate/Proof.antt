@@ -1,7 +1,7 @@
 -- `aspif::candidate::candidate` meets its contract: a line end alone leaves the bitmap blank, anything else is a list of atoms. Assumes nothing.
 use mathlib.Core.Path.{sym, ap, _∙_}
 use borrow.Author.Needs.{needs}
-use Rattle.fields.specs.Values.{asPassed}
+use Rattle.fields.specs.inner.Values.{asPassed}
 use Rattle.basics.proofs.Bitmaps.{marks-none}
 use Rattle.aspif.proofs.Candidates.{empty-refused, empty-good, candidate-other}
 use Rattle.aspif.proofs.candidate.candidate.Statement.{statement}
@@ -40,12 +40,12 @@ enum-told-4 : tie.Need-enum-told-4
 enum-told-4 c = search needs
 
 refusal-requires : tie.Need-refusal-requires
-refusal-requires c κs = search needs
+refusal-requires c κs = rw (c .enum-told4 .given .1)
 
 returns-2 : tie.Need-returns-2
 returns-2 c =
     let z = c .before .before .before .before .before .before .before .start .ensures in
-    rw (c .refusal .ensures, c .before .enum-told4 .given .1) (empty-refused _ (sym (ap asPassed (c .before .before .before .before .enum-told .given .1)) ∙ (rw z at (c .before .before .before .before .before .before .line-end .ensures))) (sym (ap asPassed (c .before .enum-told4 .given .1)) ∙ (rw z at (c .before .before .before .ending .ensures))))
+    empty-refused _ (sym (ap asPassed (c .before .before .before .before .enum-told .given .1)) ∙ (rw z at (c .before .before .before .before .before .before .line-end .ensures))) (sym (c .refusal .ensures) ∙ (rw z at (c .before .before .before .ending .ensures)))
 
 returns-3 : tie.Need-returns-3
 returns-3 c =

@@ -14,14 +14,14 @@ enum-told-2 : tie.Need-enum-told-2
 enum-told-2 c = search needs
 
 refusal-requires : tie.Need-refusal-requires
-refusal-requires c κs = search needs
+refusal-requires c κs = rw (c .enum-told2 .given .1)
 
 seven-requires : tie.Need-seven-requires
 seven-requires c κs = search needs
 
 returns : tie.Need-returns
 unfolding ending
-returns c = rw (c .seven .ensures, c .before .refusal .ensures, ← (c .before .before .before .before .last-line .ensures), c .before .before .enum-told2 .given .1)
+returns c = rw (c .seven .ensures, ← (c .before .before .before .before .last-line .ensures), c .before .refusal .ensures)
 
 returns-2 : tie.Need-returns-2
 unfolding ending

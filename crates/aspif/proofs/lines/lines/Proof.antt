@@ -1,16 +1,18 @@
 -- `aspif::lines::lines` meets its contract: with each turn what is left to read gives the whole answer, and the tape has the words
 -- of the lines so far (Turns). Assumes nothing.
-use Prim.Native.Nat.{_≤_}
-use mathlib.Core.Path.{_≡_, refl, _∙_}
+use Prim.Native.Nat.{ℕ, _≤_, _<_}
+use mathlib.Core.Path.{_≡_, refl, sym, _∙_}
 use native.Mathlib.Omega.{arith}
 use borrow.Author.Needs.{needs}
-use lib.ListN.{length}
-use Rattle.fields.proofs.Ahead.{lineEnd-ahead, natural-ahead}
+use lib.Dec.{lit<}
+use lib.ListN.{length, length-set}
+use Rattle.fields.specs.Fields.{byteAt}
 use Rattle.fields.proofs.Naturals.{ten-far}
+use Rattle.fields.proofs.Readers.{by-grammar, reads-ends, lineEnd-reads, natural-reads}
 use Rattle.fields.proofs.Taping.{wrote, stopped}
-use Rattle.aspif.specs.Words.{wordsAt}
-use Rattle.aspif.specs.Values.{taped}
-use Rattle.aspif.proofs.Turns.{turn-none, turn-stop, last-stop, last-goes, line-stop, end-stop, line-goes, Reached, reach-start, reach-fault, reach-more, end-taped, end-lines, end-walks}
+use Rattle.aspif.specs.inner.Words.{wordsOf}
+use Rattle.aspif.specs.inner.Values.{taped}
+use Rattle.aspif.proofs.Turns.{turn-none, turn-stop, last-stop, last-goes, line-stop, end-stop, line-goes, line-words, Reached, reach-start, reach-fault, reach-more, end-taped, end-lines, end-walks}
 use Rattle.aspif.proofs.lines.lines.Statement.{statement}
 use Rattle.aspif.proofs.lines.lines.Tie as tie
 
@@ -22,7 +24,7 @@ abbrev μ-loop : tie.MeasureT-loop
 μ-loop s n tape₀ d₀ o₀ left₀ tape d o left = left
 
 loop-holds : tie.Need-loop-holds Inv-loop μ-loop
-loop-holds c = (reach-start _ _ _ _, refl)
+loop-holds c = (reach-start _ _ _ _ (c .before .before .pre .0), refl)
 
 natural-requires : tie.Need-natural-requires Inv-loop μ-loop
 natural-requires c κs = search needs
@@ -34,7 +36,7 @@ enum-told : tie.Need-enum-told Inv-loop μ-loop
 enum-told c = search needs
 
 refusal-requires : tie.Need-refusal-requires Inv-loop μ-loop
-refusal-requires c κs = search needs
+refusal-requires c κs = rw (c .enum-told .given .1)
 
 same-length : tie.Need-same-length Inv-loop μ-loop
 same-length c = c .before .before .before .before .before .loop .inv .1
@@ -42,9 +44,8 @@ same-length c = c .before .before .before .before .before .loop .inv .1
 returns : tie.Need-returns Inv-loop μ-loop
 unfolding taped
 returns c =
-    let e = rw (c .before .enum-told .given .1) at (c .before .before .before .natural .ensures) in
-    let f = reach-fault _ _ _ _ _ _ _ _ (c .before .before .before .before .before .loop .inv .0) _ _ (turn-stop _ _ _ _ _ (c .before .before .before .before .loop-test .taken) e) in
-    (rw (c .refusal .ensures, c .before .enum-told .given .1, f), (rw (c .refusal .ensures, c .before .enum-told .given .1, f), tt))
+    let f = reach-fault _ _ _ _ _ _ _ _ (c .before .before .before .before .before .loop .inv .0) _ _ (turn-stop _ _ _ _ _ (c .before .before .before .before .loop-test .taken) (sym (c .refusal .ensures) ∙ c .before .before .before .natural .ensures)) in
+    (rw f, (rw f, tt))
 
 last-line-requires : tie.Need-last-line-requires Inv-loop μ-loop
 last-line-requires c κs = search needs
@@ -56,7 +57,7 @@ enum-told-3 : tie.Need-enum-told-3 Inv-loop μ-loop
 enum-told-3 c = search needs
 
 refusal-requires-2 : tie.Need-refusal-requires-2 Inv-loop μ-loop
-refusal-requires-2 c κs = search needs
+refusal-requires-2 c κs = rw (c .enum-told3 .given .1)
 
 same-length-2 : tie.Need-same-length-2 Inv-loop μ-loop
 same-length-2 c = c .before .before .before .before .before .before .before .before .before .before .loop .inv .1
@@ -64,15 +65,9 @@ same-length-2 c = c .before .before .before .before .before .before .before .bef
 returns-2 : tie.Need-returns-2 Inv-loop μ-loop
 unfolding taped
 returns-2 c =
-    let loop = c .before .before .before .before .before .before .before .before .before .before .loop in
-    let loop-test = c .before .before .before .before .before .before .before .before .before .loop-test in
-    let natural = c .before .before .before .before .before .before .before .before .natural in
-    let the-a = c .before .before .before .before .before .before .a in
-    let if1 = c .before .before .before .before .if1 in
-    let e = rw (the-a .given .1) at (natural .ensures) in
-    let g = rw (c .before .enum-told3 .given .1) at (c .before .before .before .last-line .ensures) in
-    let f = reach-fault _ _ _ _ _ _ _ _ (loop .inv .0) _ _ (last-stop _ _ _ _ _ _ _ (loop-test .taken) e (if1 .taken) g) in
-    (rw (c .refusal2 .ensures, c .before .enum-told3 .given .1, f), (rw (c .refusal2 .ensures, c .before .enum-told3 .given .1, f), tt))
+    let e = rw (c .before .before .before .before .before .before .a .given .1) at (c .before .before .before .before .before .before .before .before .natural .ensures) in
+    let f = reach-fault _ _ _ _ _ _ _ _ (c .before .before .before .before .before .before .before .before .before .before .loop .inv .0) _ _ (last-stop _ _ _ _ _ _ _ (c .before .before .before .before .before .before .before .before .before .loop-test .taken) e (c .before .before .before .before .if1 .taken) (sym (c .refusal2 .ensures) ∙ c .before .before .before .last-line .ensures)) in
+    (rw f, (rw f, tt))
 
 sub-count : tie.Need-sub-count Inv-loop μ-loop
 sub-count c = omega (arith, c .before .before .before .before .before .before .before .before .before .loop .inv .0 .count)
@@ -81,25 +76,33 @@ same-length-3 : tie.Need-same-length-3 Inv-loop μ-loop
 same-length-3 c = c .before .before .before .before .before .before .before .before .before .loop .inv .1
 
 returns-3 : tie.Need-returns-3 Inv-loop μ-loop
+unfolding byteAt
 returns-3 c =
-    let p = c .before .before .before .before .before .before .before .before .before .before .before .before .pre in
+    let start = c .before .before .before .before .before .before .before .before .before .before .before .before in
+    let p = start .pre in
     let e = rw (c .before .before .before .before .before .a .given .1) at (c .before .before .before .before .before .before .before .natural .ensures) in
-    let h = natural-ahead _ _ _ _ .ends _ _ e in
+    let h = reads-ends (lit< tt) (natural-reads _ _ by-grammar _ _) _ _ e in
     let g = rw (c .enum-told2 .given .1) at (c .before .before .last-line .ensures) in
     let l = last-goes _ _ _ _ _ _ (c .before .before .before .before .before .before .before .before .loop-test .taken) e (c .before .before .before .if1 .taken) g in
     let i = c .before .before .before .before .before .before .before .before .before .loop .inv .0 in
-    let b : c .before .before .before .before .before .before .before .before .before .loop .o ≤ length (c .before .before .before .before .before .before .before .before .before .before .before .before .args .tape .now) = omega (arith, i .room) in
-    (end-taped _ _ _ _ _ _ _ _ i _ l b, (end-lines _ _ _ _ _ _ _ _ i _ l b, end-walks _ _ _ _ _ _ _ _ i _ l b (c .before .before .before .before .before .before .before .before .before .before .before .before .pre .1)))
+    let b : c .before .before .before .before .before .before .before .before .before .loop .o ≤ length (start .args .tape .now) = omega (arith, i .room) in
+    (end-taped _ _ _ _ _ _ _ _ i _ l b, (end-lines _ _ _ _ _ _ _ _ i _ l b, end-walks _ _ _ _ _ _ _ _ i _ l b (λ k. omega (arith, c .before .before .before .before .before .before .before .before .before .before .before .shared-slice-known .given k))))
+
+add-from : tie.Need-add-from Inv-loop μ-loop
+add-from c =
+    let p = c .before .before .before .before .before .before .before .before .before .pre in
+    let e = rw (c .before .before .a .given .1) at (c .before .before .before .before .natural .ensures) in
+    let h = reads-ends (lit< tt) (natural-reads _ _ by-grammar _ _) _ _ e in
+    let r = c .before .before .before .before .before .before .loop .inv .0 .room in
+    omega arith
 
 statement-of-requires : tie.Need-statement-of-requires Inv-loop μ-loop
 statement-of-requires c κs =
-    let pre = c .before .before .before .before .before .before .before .before .before .before .pre in
-    let loop = c .before .before .before .before .before .before .before .loop in
-    let natural = c .before .before .before .before .before .natural in
-    let p = pre in
-    let e = rw (c .before .before .before .a .given .1) at (natural .ensures) in
-    let h = natural-ahead _ _ _ _ .ends _ _ e in
-    ((loop .inv .0 .room, h .0, rw (loop .inv .1) (pre .0), pre .1, omega arith), ten-far _ _ _ _ _ _ e)
+    let p = c .before .before .before .before .before .before .before .before .before .before .pre in
+    let e = rw (c .before .before .before .a .given .1) at (c .before .before .before .before .before .natural .ensures) in
+    let h = reads-ends (lit< tt) (natural-reads _ _ by-grammar _ _) _ _ e in
+    let r = c .before .before .before .before .before .before .before .loop .inv .0 .room in
+    (omega arith, rw (c .before .before .before .before .before .before .before .loop .inv .1) (p .1), p .2, λ k. omega (arith, ten-far _ _ _ _ _ _ e k))
 
 enum-known-w : tie.Need-enum-known-w Inv-loop μ-loop
 enum-known-w c = search needs
@@ -108,7 +111,7 @@ enum-told-4 : tie.Need-enum-told-4 Inv-loop μ-loop
 enum-told-4 c = search needs
 
 refusal-requires-3 : tie.Need-refusal-requires-3 Inv-loop μ-loop
-refusal-requires-3 c κs = search needs
+refusal-requires-3 c κs = λ t. rw (c .enum-told4 .given .1)
 
 same-length-4 : tie.Need-same-length-4 Inv-loop μ-loop
 same-length-4 c = c .before .before .before .before .before .statement-of .kept .1 .1 .1 .1 .0 ∙ c .before .before .before .before .before .before .before .before .before .before .before .before .before .loop .inv .1
@@ -116,16 +119,10 @@ same-length-4 c = c .before .before .before .before .before .statement-of .kept 
 returns-4 : tie.Need-returns-4 Inv-loop μ-loop
 unfolding taped
 returns-4 c =
-    let loop = c .before .before .before .before .before .before .before .before .before .before .before .before .before .loop in
-    let loop-test = c .before .before .before .before .before .before .before .before .before .before .before .before .loop-test in
-    let natural = c .before .before .before .before .before .before .before .before .before .before .before .natural in
-    let the-a = c .before .before .before .before .before .before .before .before .before .a in
-    let if1 = c .before .before .before .before .before .before .before .if1 in
-    let statement-of = c .before .before .before .before .before .statement-of in
-    let e = rw (the-a .given .1) at (natural .ensures) in
-    let g = stopped (wordsAt _) _ _ _ (rw (c .before .enum-told4 .given .1) at (statement-of .ensures .0)) in
-    let f = reach-fault _ _ _ _ _ _ _ _ (loop .inv .0) _ _ (line-stop _ _ _ _ _ _ _ (loop-test .taken) e (if1 .left) g) in
-    (rw (c .refusal3 .ensures, c .before .enum-told4 .given .1, f), (rw (c .refusal3 .ensures, c .before .enum-told4 .given .1, f), tt))
+    let e = rw (c .before .before .before .before .before .before .before .before .before .a .given .1) at (c .before .before .before .before .before .before .before .before .before .before .before .natural .ensures) in
+    let g = stopped wordsOf _ _ _ (sym (c .refusal3 .ensures _) ∙ c .before .before .before .before .before .statement-of .ensures .0) in
+    let f = reach-fault _ _ _ _ _ _ _ _ (c .before .before .before .before .before .before .before .before .before .before .before .before .before .loop .inv .0) _ _ (line-stop _ _ _ _ _ _ _ (c .before .before .before .before .before .before .before .before .before .before .before .before .loop-test .taken) e (c .before .before .before .before .before .before .before .if1 .left) g) in
+    (rw f, (rw f, tt))
 
 line-end-requires : tie.Need-line-end-requires Inv-loop μ-loop
 line-end-requires c κs = search needs
@@ -137,7 +134,7 @@ enum-told-5 : tie.Need-enum-told-5 Inv-loop μ-loop
 enum-told-5 c = search needs
 
 refusal-requires-4 : tie.Need-refusal-requires-4 Inv-loop μ-loop
-refusal-requires-4 c κs = search needs
+refusal-requires-4 c κs = rw (c .enum-told5 .given .1)
 
 same-length-5 : tie.Need-same-length-5 Inv-loop μ-loop
 same-length-5 c = c .before .before .before .before .before .before .before .before .before .statement-of .kept .1 .1 .1 .1 .0 ∙ c .before .before .before .before .before .before .before .before .before .before .before .before .before .before .before .before .before .loop .inv .1
@@ -145,19 +142,21 @@ same-length-5 c = c .before .before .before .before .before .before .before .bef
 returns-5 : tie.Need-returns-5 Inv-loop μ-loop
 unfolding taped
 returns-5 c =
-    let loop = c .before .before .before .before .before .before .before .before .before .before .before .before .before .before .before .before .before .loop in
-    let loop-test = c .before .before .before .before .before .before .before .before .before .before .before .before .before .before .before .before .loop-test in
-    let natural = c .before .before .before .before .before .before .before .before .before .before .before .before .before .before .before .natural in
-    let the-a = c .before .before .before .before .before .before .before .before .before .before .before .before .before .a in
-    let if1 = c .before .before .before .before .before .before .before .before .before .before .before .if1 in
-    let statement-of = c .before .before .before .before .before .before .before .before .before .statement-of in
-    let the-w = c .before .before .before .before .before .w in
-    let line-end = c .before .before .before .line-end in
-    let e = rw (the-a .given .1) at (natural .ensures) in
-    let g = wrote (wordsAt _) _ _ _ (rw (the-w .given .1) at (statement-of .ensures .0)) in
-    let h = rw (c .before .enum-told5 .given .1) at (line-end .ensures) in
-    let f = reach-fault _ _ _ _ _ _ _ _ (loop .inv .0) _ _ (end-stop _ _ _ _ _ _ _ _ _ (loop-test .taken) e (if1 .left) (g .is) h) in
-    (rw (c .refusal4 .ensures, c .before .enum-told5 .given .1, f), (rw (c .refusal4 .ensures, c .before .enum-told5 .given .1, f), tt))
+    let e = rw (c .before .before .before .before .before .before .before .before .before .before .before .before .before .a .given .1) at (c .before .before .before .before .before .before .before .before .before .before .before .before .before .before .before .natural .ensures) in
+    let g = wrote wordsOf _ _ _ (rw (c .before .before .before .before .before .w .given .1) at (c .before .before .before .before .before .before .before .before .before .statement-of .ensures .0)) in
+    let f = reach-fault _ _ _ _ _ _ _ _ (c .before .before .before .before .before .before .before .before .before .before .before .before .before .before .before .before .before .loop .inv .0) _ _ (end-stop _ _ _ _ _ _ _ _ _ (c .before .before .before .before .before .before .before .before .before .before .before .before .before .before .before .before .loop-test .taken) e (c .before .before .before .before .before .before .before .before .before .before .before .if1 .left) (g .is) (sym (c .refusal4 .ensures) ∙ c .before .before .before .line-end .ensures)) in
+    (rw f, (rw f, tt))
+
+head-line-requires : tie.Need-head-line-requires Inv-loop μ-loop
+head-line-requires c κs =
+    let p = c .before .before .before .before .before .before .before .before .before .before .before .before .before .before .before .before .before .before .before .before .before .pre in
+    let e = rw (c .before .before .before .before .before .before .before .before .before .before .before .before .before .before .a .given .1) at (c .before .before .before .before .before .before .before .before .before .before .before .before .before .before .before .before .natural .ensures) in
+    let h = reads-ends (lit< tt) (natural-reads _ _ by-grammar _ _) _ _ e in
+    let g = wrote wordsOf _ _ _ (rw (c .before .before .before .before .before .before .w .given .1) at (c .before .before .before .before .before .before .before .before .before .before .statement-of .ensures .0)) in
+    let b = rw (c .before .before .before .before .before .before .w .given .1) at (c .before .before .before .before .before .before .before .before .before .before .statement-of .ensures .1) in
+    let z = rw (c .before .before .z .given .1) at (c .before .before .before .before .line-end .ensures) in
+    let f = reads-ends (lit< tt) (lineEnd-reads _ _) _ _ z in
+    (omega (arith, g .next), rw (c .before .before .before .before .before .before .before .before .before .before .statement-of .kept .1 .1 .1 .1 .0 ∙ c .before .before .before .before .before .before .before .before .before .before .before .before .before .before .before .before .before .before .loop .inv .1) (omega arith), omega arith, omega arith)
 
 sub-left : tie.Need-sub-left Inv-loop μ-loop
 sub-left c = search needs
@@ -167,20 +166,14 @@ loop-less c = search needs
 
 loop-again : tie.Need-loop-again Inv-loop μ-loop
 loop-again c =
-    let loop = c .before .before .before .before .before .before .before .before .before .before .before .before .before .before .before .before .before .loop in
-    let loop-test = c .before .before .before .before .before .before .before .before .before .before .before .before .before .before .before .before .loop-test in
-    let natural = c .before .before .before .before .before .before .before .before .before .before .before .before .before .before .before .natural in
-    let the-a = c .before .before .before .before .before .before .before .before .before .before .before .before .before .a in
-    let if1 = c .before .before .before .before .before .before .before .before .before .before .before .if1 in
-    let statement-of = c .before .before .before .before .before .before .before .before .before .statement-of in
-    let the-w = c .before .before .before .before .before .w in
-    let e = rw (the-a .given .1) at (natural .ensures) in
-    let g = wrote (wordsAt _) _ _ _ (rw (the-w .given .1) at (statement-of .ensures .0)) in
-    let b = rw (the-w .given .1) at (statement-of .ensures .1) in
-    let h = rw (c .before .z .given .1) at (c .before .before .before .line-end .ensures) in
-    let f = lineEnd-ahead _ _ .ends _ _ h in
-    let l = line-goes _ _ _ _ _ _ _ _ (loop-test .taken) e (if1 .left) (g .is) h in
-    (reach-more _ _ _ _ _ _ _ _ (loop .inv .0) _ _ _ _ _ l (g .tape) (g .next) (omega arith) (omega arith), statement-of .kept .1 .1 .1 .1 .0 ∙ loop .inv .1)
+    let e = rw (c .before .before .before .before .before .before .before .before .before .before .before .before .before .before .before .before .before .a .given .1) at (c .before .before .before .before .before .before .before .before .before .before .before .before .before .before .before .before .before .before .before .natural .ensures) in
+    let g = wrote wordsOf _ _ _ (rw (c .before .before .before .before .before .before .before .before .before .w .given .1) at (c .before .before .before .before .before .before .before .before .before .before .before .before .before .statement-of .ensures .0)) in
+    let b = rw (c .before .before .before .before .before .before .before .before .before .w .given .1) at (c .before .before .before .before .before .before .before .before .before .before .before .before .before .statement-of .ensures .1) in
+    let h = rw (c .before .before .before .before .before .z .given .1) at (c .before .before .before .before .before .before .before .line-end .ensures) in
+    let f = reads-ends (lit< tt) (lineEnd-reads _ _) _ _ h in
+    let l = line-goes _ _ _ _ _ _ _ _ (c .before .before .before .before .before .before .before .before .before .before .before .before .before .before .before .before .before .before .before .before .loop-test .taken) e (c .before .before .before .before .before .before .before .before .before .before .before .before .before .before .before .if1 .left) (g .is) h in
+    let w = line-words _ _ _ _ (wordsOf (g .value)) (g .tape) (g .next) (c .before .before .head-line .ensures) in
+    (reach-more _ _ _ _ _ _ _ _ (c .before .before .before .before .before .before .before .before .before .before .before .before .before .before .before .before .before .before .before .before .before .loop .inv .0) _ _ _ _ _ l w (omega (arith, g .next)) (omega arith) (omega arith), c .before .before .head-line .kept .0 ∙ c .before .before .before .before .before .before .before .before .before .before .before .before .before .statement-of .kept .1 .1 .1 .1 .0 ∙ c .before .before .before .before .before .before .before .before .before .before .before .before .before .before .before .before .before .before .before .before .before .loop .inv .1)
 
 same-length-6 : tie.Need-same-length-6 Inv-loop μ-loop
 same-length-6 c = c .before .loop .inv .1
@@ -213,6 +206,7 @@ lines-spec =
     sub-count
     same-length-3
     returns-3
+    add-from
     statement-of-requires
     enum-known-w
     enum-told-4
@@ -225,6 +219,7 @@ lines-spec =
     refusal-requires-4
     same-length-5
     returns-5
+    head-line-requires
     sub-left
     loop-less
     loop-again

@@ -2,13 +2,10 @@
 use borrow.Author.Needs.{needs}
 use borrow.Author.Tests.{eq-eqb, ne-eqb}
 use native.Mathlib.Omega.{arith}
-use Rattle.fields.specs.Tape.{onTape}
+use Rattle.fields.specs.inner.Tape.{onTape}
 use Rattle.aspif.specs.Grammar.{statementOf}
 use Rattle.aspif.proofs.lines.statement_of.Statement.{statement}
 use Rattle.aspif.proofs.lines.statement_of.Tie as tie
-
-cast-line : tie.Need-cast-line
-cast-line c = search needs
 
 rule-line-requires : tie.Need-rule-line-requires
 rule-line-requires c κs = search needs
@@ -47,8 +44,8 @@ returns-3 c =
 
 comment-line-requires : tie.Need-comment-line-requires
 comment-line-requires c κs =
-    let f = c .before .before .before .before .before .before .before .pre .1 (c .before .if4 .taken) in
-    (omega arith, search needs, search needs)
+    let f = c .before .before .before .before .before .before .before .pre .3 (c .before .if4 .taken) in
+    (f, search needs, search needs)
 
 same-length-4 : tie.Need-same-length-4
 same-length-4 c = search needs
@@ -71,7 +68,6 @@ pub statement-of-spec : {M : Type 1} → statement M
 statement-of-spec =
     tie.close
     (tie.spec
-    cast-line
     rule-line-requires
     same-length
     returns

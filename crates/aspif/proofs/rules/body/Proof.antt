@@ -1,9 +1,14 @@
 -- `aspif::rules::body` meets its contract. Assumes nothing.
 use borrow.Author.Needs.{needs}
+use mathlib.Core.Path.{_∙_}
 use native.Mathlib.Omega.{arith}
-use Rattle.fields.specs.Tape.{onTape}
+use lib.Dec.{lit<}
+use Rattle.fields.specs.inner.Tape.{onTape}
+use Rattle.fields.proofs.Readers.{reads-ends}
+use Rattle.fields.proofs.Taping.{on-start, on-last}
 use Rattle.aspif.specs.Grammar.{body}
-use Rattle.aspif.proofs.Selectors.{bodyKind-ahead}
+use Rattle.aspif.proofs.Coding.{literals-forth}
+use Rattle.aspif.proofs.Kept.{bodyKind-reads}
 use Rattle.aspif.proofs.rules.body.Statement.{statement}
 use Rattle.aspif.proofs.rules.body.Tie as tie
 
@@ -17,16 +22,16 @@ enum-told : tie.Need-enum-told
 enum-told c = search needs
 
 refusal-requires : tie.Need-refusal-requires
-refusal-requires c κs = search needs
+refusal-requires c κs = rw (c .enum-told .given .1)
 
 returns : tie.Need-returns
 unfolding body onTape
-returns c = (rw (c .refusal .ensures, ← (c .before .before .before .body-kind .ensures), c .before .enum-told .given .1), tt)
+returns c = (rw (← (c .before .before .before .body-kind .ensures), c .refusal .ensures), tt)
 
 literals-requires : tie.Need-literals-requires
 literals-requires c κs =
     let e = rw (c .before .before .a .given .1) at (c .before .before .before .before .body-kind .ensures) in
-    let f = bodyKind-ahead _ _ .ends _ _ e in
+    let f = reads-ends (lit< tt) (bodyKind-reads _ _) _ _ e in
     (omega arith, search needs)
 
 same-length : tie.Need-same-length
@@ -34,7 +39,7 @@ same-length c = search needs
 
 returns-2 : tie.Need-returns-2
 unfolding body
-returns-2 c = (rw (← (c .before .before .before .before .before .before .before .body-kind .ensures), c .before .before .before .before .before .a .given .1) (c .before .before .literals .ensures .0), c .before .before .literals .ensures .1)
+returns-2 c = (rw (← (c .before .before .before .before .before .before .before .body-kind .ensures), c .before .before .before .before .before .a .given .1) (c .before .before .literals .ensures .0 ∙ on-last _ _ _ _ _ _ _ (on-start _ _) (λ ls. rw literals-forth)), c .before .before .literals .ensures .1)
 
 pub body-spec : {M : Type 1} → statement M
 body-spec =

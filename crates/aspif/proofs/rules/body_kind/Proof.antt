@@ -2,7 +2,8 @@
 use borrow.Author.Needs.{needs}
 use borrow.Author.Tests.{eq-eqb, ne-eqb}
 use native.Mathlib.Omega.{arith}
-use Rattle.fields.proofs.Ahead.{nextNatural-far}
+use lib.Dec.{lit<}
+use Rattle.fields.proofs.Readers.{by-grammar, reads-ends, nextNatural-reads}
 use Rattle.aspif.specs.Grammar.{bodyKind}
 use Rattle.aspif.proofs.rules.body_kind.Statement.{statement}
 use Rattle.aspif.proofs.rules.body_kind.Tie as tie
@@ -17,11 +18,11 @@ enum-told : tie.Need-enum-told
 enum-told c = search needs
 
 refusal-requires : tie.Need-refusal-requires
-refusal-requires c κs = search needs
+refusal-requires c κs = rw (c .enum-told .given .1)
 
 returns : tie.Need-returns
 unfolding bodyKind
-returns c = rw (c .refusal .ensures, ← (c .before .before .before .next-natural .ensures), c .before .enum-told .given .1)
+returns c = rw (← (c .before .before .before .next-natural .ensures), c .refusal .ensures)
 
 returns-2 : tie.Need-returns-2
 unfolding bodyKind
@@ -30,7 +31,7 @@ returns-2 c = rw (← (c .before .before .before .before .next-natural .ensures)
 add-place : tie.Need-add-place
 add-place c =
     let e = rw (c .before .before .a .given .1) at (c .before .before .before .before .next-natural .ensures) in
-    let f = nextNatural-far _ _ _ _ .ends _ _ e in
+    let f = reads-ends (lit< tt) (nextNatural-reads _ _ by-grammar _ _) _ _ e in
     omega arith
 
 returns-3 : tie.Need-returns-3

@@ -4,10 +4,10 @@ use mathlib.Core.Path.{_∙_}
 use mathlib.Core.List.{[], _∷_}
 use native.Mathlib.Omega.{arith}
 use lib.Dec.{lit<}
-use Rattle.fields.specs.Tape.{listed}
-use Rattle.fields.proofs.Ahead.{naturalThen-far}
+use Rattle.fields.specs.inner.Tape.{listed}
+use Rattle.fields.proofs.Readers.{by-bounds, reads-ends, naturalThen-reads}
 use Rattle.fields.proofs.Taping.{wrote, stopped, on-fault, on-start, on-more, on-last}
-use Rattle.fields.specs.Fields.{string}
+use Rattle.fields.specs.Fields.{space, string}
 use Rattle.aspif.specs.Grammar.{outputLine}
 use Rattle.aspif.proofs.Coding.{literals-forth}
 use Rattle.aspif.proofs.rules.output_line.Statement.{statement}
@@ -23,26 +23,26 @@ enum-told : tie.Need-enum-told
 enum-told c = search needs
 
 refusal-requires : tie.Need-refusal-requires
-refusal-requires c κs = search needs
+refusal-requires c κs = rw (c .enum-told .given .1)
 
 returns : tie.Need-returns
 unfolding outputLine string
-returns c = (rw (c .refusal .ensures, ← (c .before .before .before .natural-then .ensures), c .before .enum-told .given .1) (on-fault _ _ _ _ _), tt)
+returns c = (rw (← (c .before .before .before .natural-then .ensures), c .refusal .ensures) (on-fault _ _ _ _ _), tt)
 
-begin-requires : tie.Need-begin-requires
-begin-requires c κs =
+put-requires : tie.Need-put-requires
+put-requires c κs =
     let p = c .before .before .before .before .before .before .before .pre in
     let ea = rw (c .before .before .a .given .1) at (c .before .before .before .before .natural-then .ensures) in
-    let fa = naturalThen-far _ _ 32 (lit< tt) _ _ .ends _ _ ea in
+    let fa = reads-ends (lit< tt) (naturalThen-reads _ _ space by-bounds (lit< tt) _ _) _ _ ea in
     omega arith
 
 listed-requires : tie.Need-listed-requires
 listed-requires c κs =
     let p = c .before .before .before .before .before .before .before .before .before .before .before .pre in
     let ea = rw (c .before .before .before .before .before .before .a .given .1) at (c .before .before .before .before .before .before .before .before .natural-then .ensures) in
-    let fa = naturalThen-far _ _ 32 (lit< tt) _ _ .ends _ _ ea in
-    let nbegin = c .before .before .before .begin .ensures .1 in
-    (omega arith, omega arith, rw (c .before .before .before .begin .kept .0) (omega arith))
+    let fa = reads-ends (lit< tt) (naturalThen-reads _ _ space by-bounds (lit< tt) _ _) _ _ ea in
+    let nbegin = c .before .before .before .put .ensures .1 in
+    (omega arith, omega arith, rw (c .before .before .before .put .kept .0) (omega arith))
 
 enum-known-t : tie.Need-enum-known-t
 enum-known-t c = search needs
@@ -51,7 +51,7 @@ enum-told-2 : tie.Need-enum-told-2
 enum-told-2 c = search needs
 
 same-length : tie.Need-same-length
-same-length c = c .before .before .before .before .listed .kept .1 .1 .1 .1 .0 ∙ c .before .before .before .before .before .before .before .before .begin .kept .0
+same-length c = c .before .before .before .before .listed .kept .1 .1 .1 .1 .0 ∙ c .before .before .before .before .before .before .before .before .put .kept .0
 
 returns-2 : tie.Need-returns-2
 unfolding outputLine string
@@ -66,24 +66,24 @@ literals-requires : tie.Need-literals-requires
 literals-requires c κs =
     let p = c .before .before .before .before .before .before .before .before .before .before .before .before .before .before .before .before .before .before .pre in
     let ea = rw (c .before .before .before .before .before .before .before .before .before .before .before .before .before .a .given .1) at (c .before .before .before .before .before .before .before .before .before .before .before .before .before .before .before .natural-then .ensures) in
-    let fa = naturalThen-far _ _ 32 (lit< tt) _ _ .ends _ _ ea in
-    let nbegin = c .before .before .before .before .before .before .before .before .before .before .begin .ensures .1 in
+    let fa = reads-ends (lit< tt) (naturalThen-reads _ _ space by-bounds (lit< tt) _ _) _ _ ea in
+    let nbegin = c .before .before .before .before .before .before .before .before .before .before .put .ensures .1 in
     let rt = rw (c .before .before .t .given .1) at (c .before .before .before .before .before .before .listed .ensures .1) in
-    (omega arith, rw (c .before .before .before .before .before .before .listed .kept .1 .1 .1 .1 .0 ∙ c .before .before .before .before .before .before .before .before .before .before .begin .kept .0) (omega arith))
+    (omega arith, rw (c .before .before .before .before .before .before .listed .kept .1 .1 .1 .1 .0 ∙ c .before .before .before .before .before .before .before .before .before .before .put .kept .0) (omega arith))
 
 same-length-2 : tie.Need-same-length-2
-same-length-2 c = c .before .before .literals .kept .1 .1 .0 ∙ c .before .before .before .before .before .before .before .before .before .listed .kept .1 .1 .1 .1 .0 ∙ c .before .before .before .before .before .before .before .before .before .before .before .before .before .begin .kept .0
+same-length-2 c = c .before .before .literals .kept .1 .1 .0 ∙ c .before .before .before .before .before .before .before .before .before .listed .kept .1 .1 .1 .1 .0 ∙ c .before .before .before .before .before .before .before .before .before .before .before .before .before .put .kept .0
 
 returns-3 : tie.Need-returns-3
 unfolding outputLine string
 returns-3 c =
     let natural-then = c .before .before .before .before .before .before .before .before .before .before .before .before .before .before .before .before .before .before .natural-then in
     let the-a = c .before .before .before .before .before .before .before .before .before .before .before .before .before .before .before .before .a in
-    let begin = c .before .before .before .before .before .before .before .before .before .before .before .before .before .begin in
+    let put = c .before .before .before .before .before .before .before .before .before .before .before .before .before .put in
     let literals = c .before .before .literals in
     let wt = wrote listed _ _ _ (rw (c .before .before .before .before .before .t .given .1) at (c .before .before .before .before .before .before .before .before .before .listed .ensures .0)) in (
-      rw (← (natural-then .ensures), the-a .given .1, wt .is) (literals .ensures .0 ∙ on-last _ _ _ _ _ _
-          (on-more _ _ _ (listed (wt .value)) (on-more _ _ _ (_ ∷ _ ∷ []) (on-start _ _) (begin .ensures .0) (begin .ensures .1)) (wt .tape) (wt .next))
+      rw (← (natural-then .ensures), the-a .given .1, wt .is) (literals .ensures .0 ∙ on-last _ _ _ _ _ _ _
+          (on-more _ _ _ (listed (wt .value)) (on-more _ _ _ (_ ∷ []) (on-start _ _) (put .ensures .0) (put .ensures .1)) (wt .tape) (wt .next))
           (λ ls. rw literals-forth)),
       literals .ensures .1,
     )
@@ -97,7 +97,7 @@ output-line-spec =
     enum-told
     refusal-requires
     returns
-    begin-requires
+    put-requires
     listed-requires
     enum-known-t
     enum-told-2

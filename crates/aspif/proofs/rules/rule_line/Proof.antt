@@ -3,11 +3,12 @@ use borrow.Author.Needs.{needs}
 use mathlib.Core.Path.{sym, _∙_}
 use mathlib.Core.List.{[], _∷_}
 use native.Mathlib.Omega.{arith}
-use Rattle.fields.specs.Tape.{listed}
-use Rattle.fields.proofs.Ahead.{nextNatural-far}
-use Rattle.fields.proofs.Taping.{wrote, stopped, on-fault, on-start, on-more, on-last, nextNatural-within}
+use lib.Dec.{lit<}
+use Rattle.fields.specs.inner.Tape.{listed}
+use Rattle.fields.proofs.Readers.{by-grammar, reads-ends, nextNatural-reads}
+use Rattle.fields.proofs.Taping.{wrote, stopped, on-fault, on-start, on-more, on-last}
 use Rattle.aspif.specs.Grammar.{ruleLine}
-use Rattle.aspif.proofs.Coding.{literals-forth, head-forth, heads-few}
+use Rattle.aspif.proofs.Coding.{head-forth, heads-few}
 use Rattle.aspif.proofs.rules.rule_line.Statement.{statement}
 use Rattle.aspif.proofs.rules.rule_line.Tie as tie
 
@@ -21,26 +22,26 @@ enum-told : tie.Need-enum-told
 enum-told c = search needs
 
 refusal-requires : tie.Need-refusal-requires
-refusal-requires c κs = search needs
+refusal-requires c κs = rw (c .enum-told .given .1)
 
 returns : tie.Need-returns
 unfolding ruleLine
-returns c = (rw (c .refusal .ensures, ← (c .before .before .before .next-natural .ensures), c .before .enum-told .given .1) (on-fault _ _ _ _ _), tt)
+returns c = (rw (← (c .before .before .before .next-natural .ensures), c .refusal .ensures) (on-fault _ _ _ _ _), tt)
 
-begin-with-requires : tie.Need-begin-with-requires
-begin-with-requires c κs =
+begin-requires : tie.Need-begin-requires
+begin-requires c κs =
     let p = c .before .before .before .before .before .before .before .pre in
     let ea = rw (c .before .before .a .given .1) at (c .before .before .before .before .next-natural .ensures) in
-    let fa = nextNatural-far _ _ _ _ .ends _ _ ea in
+    let fa = reads-ends (lit< tt) (nextNatural-reads _ _ by-grammar _ _) _ _ ea in
     omega arith
 
 heads-requires : tie.Need-heads-requires
 heads-requires c κs =
     let p = c .before .before .before .before .before .before .before .before .before .before .before .pre in
     let ea = rw (c .before .before .before .before .before .before .a .given .1) at (c .before .before .before .before .before .before .before .before .next-natural .ensures) in
-    let fa = nextNatural-far _ _ _ _ .ends _ _ ea in
-    let nbeginwith = c .before .before .before .begin-with .ensures .1 in
-    (omega arith, rw (c .before .before .before .begin-with .kept .0) (omega arith))
+    let fa = reads-ends (lit< tt) (nextNatural-reads _ _ by-grammar _ _) _ _ ea in
+    let nbeginwith = c .before .before .before .begin .ensures .1 in
+    (omega arith, rw (c .before .before .before .begin .kept .0) (omega arith))
 
 enum-known-h : tie.Need-enum-known-h
 enum-known-h c = search needs
@@ -49,7 +50,7 @@ enum-told-2 : tie.Need-enum-told-2
 enum-told-2 c = search needs
 
 same-length : tie.Need-same-length
-same-length c = c .before .before .before .before .heads .kept .1 .1 .1 .0 ∙ c .before .before .before .before .before .before .before .before .begin-with .kept .0
+same-length c = c .before .before .before .before .heads .kept .1 .1 .1 .0 ∙ c .before .before .before .before .before .before .before .before .begin .kept .0
 
 returns-2 : tie.Need-returns-2
 unfolding ruleLine
@@ -64,28 +65,28 @@ body-requires : tie.Need-body-requires
 body-requires c κs =
     let p = c .before .before .before .before .before .before .before .before .before .before .before .before .before .before .before .before .before .before .pre in
     let ea = rw (c .before .before .before .before .before .before .before .before .before .before .before .before .before .a .given .1) at (c .before .before .before .before .before .before .before .before .before .before .before .before .before .before .before .next-natural .ensures) in
-    let fa = nextNatural-far _ _ _ _ .ends _ _ ea in
-    let nbeginwith = c .before .before .before .before .before .before .before .before .before .before .begin-with .ensures .1 in
+    let fa = reads-ends (lit< tt) (nextNatural-reads _ _ by-grammar _ _) _ _ ea in
+    let nbeginwith = c .before .before .before .before .before .before .before .before .before .before .begin .ensures .1 in
     let rh = rw (c .before .before .h .given .1) at (c .before .before .before .before .before .before .heads .ensures .1) in
-    (omega arith, rw (c .before .before .before .before .before .before .heads .kept .1 .1 .1 .0 ∙ c .before .before .before .before .before .before .before .before .before .before .begin-with .kept .0) (omega arith))
+    (omega arith, rw (c .before .before .before .before .before .before .heads .kept .1 .1 .1 .0 ∙ c .before .before .before .before .before .before .before .before .before .before .begin .kept .0) (omega arith))
 
 same-length-2 : tie.Need-same-length-2
-same-length-2 c = c .before .before .body .kept .1 .1 .0 ∙ c .before .before .before .before .before .before .before .before .before .heads .kept .1 .1 .1 .0 ∙ c .before .before .before .before .before .before .before .before .before .before .before .before .before .begin-with .kept .0
+same-length-2 c = c .before .before .body .kept .1 .1 .0 ∙ c .before .before .before .before .before .before .before .before .before .heads .kept .1 .1 .1 .0 ∙ c .before .before .before .before .before .before .before .before .before .before .before .before .before .begin .kept .0
 
 returns-3 : tie.Need-returns-3
 unfolding ruleLine
 returns-3 c =
     let next-natural = c .before .before .before .before .before .before .before .before .before .before .before .before .before .before .before .before .before .before .next-natural in
     let the-a = c .before .before .before .before .before .before .before .before .before .before .before .before .before .before .before .before .a in
-    let begin-with = c .before .before .before .before .before .before .before .before .before .before .before .before .before .begin-with in
+    let begin = c .before .before .before .before .before .before .before .before .before .before .before .before .before .begin in
     let heads = c .before .before .before .before .before .before .before .before .before .heads in
     let body = c .before .before .body in
     let wh = wrote listed _ _ _ (rw (c .before .before .before .before .before .h .given .1) at (heads .ensures .0)) in
     let ea = rw (the-a .given .1) at (next-natural .ensures) in
-    let hw = head-forth _ (wh .value) (nextNatural-within _ _ _ _ _ _ ea) (heads-few _ _ _ _ _ (sym (wh .is))) in (
-      rw (← (next-natural .ensures), the-a .given .1, wh .is) (body .ensures .0 ∙ on-last _ _ _ _ _ _
-          (on-more _ _ _ (listed (wh .value)) (on-more _ _ _ (_ ∷ _ ∷ _ ∷ []) (on-start _ _) (begin-with .ensures .0) (begin-with .ensures .1)) (wh .tape) (wh .next))
-          (λ ls. rw (hw, literals-forth))),
+    let hw = head-forth _ (wh .value) (reads-ends (lit< tt) (nextNatural-reads _ _ by-grammar _ _) _ _ ea .0) (heads-few _ _ _ _ _ (sym (wh .is))) in (
+      rw (← (next-natural .ensures), the-a .given .1, wh .is) (body .ensures .0 ∙ on-last _ _ _ _ _ _ _
+          (on-more _ _ _ (listed (wh .value)) (on-more _ _ _ (_ ∷ _ ∷ []) (on-start _ _) (begin .ensures .0) (begin .ensures .1)) (wh .tape) (wh .next))
+          (λ b. rw hw)),
       body .ensures .1,
     )
 
@@ -98,7 +99,7 @@ rule-line-spec =
     enum-told
     refusal-requires
     returns
-    begin-with-requires
+    begin-requires
     heads-requires
     enum-known-h
     enum-told-2

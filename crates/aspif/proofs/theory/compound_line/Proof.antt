@@ -3,7 +3,8 @@ use borrow.Author.Needs.{needs}
 use mathlib.Core.Path.{_∙_}
 use mathlib.Core.List.{[], _∷_}
 use native.Mathlib.Omega.{arith}
-use Rattle.fields.proofs.Ahead.{nextTerm-far, nextInteger-far}
+use lib.Dec.{lit<}
+use Rattle.fields.proofs.Readers.{reads-ends, nextInteger-reads, nextTerm-reads}
 use Rattle.fields.proofs.Taping.{on-fault, on-start, on-more, on-last}
 use Rattle.aspif.specs.Grammar.{compoundLine}
 use Rattle.aspif.proofs.Coding.{integer-forth}
@@ -20,11 +21,11 @@ enum-told : tie.Need-enum-told
 enum-told c = search needs
 
 refusal-requires : tie.Need-refusal-requires
-refusal-requires c κs = search needs
+refusal-requires c κs = rw (c .enum-told .given .1)
 
 returns : tie.Need-returns
 unfolding compoundLine
-returns c = (rw (c .refusal .ensures, ← (c .before .before .before .next-term .ensures), c .before .enum-told .given .1) (on-fault _ _ _ _ _), tt)
+returns c = (rw (← (c .before .before .before .next-term .ensures), c .refusal .ensures) (on-fault _ _ _ _ _), tt)
 
 next-integer-requires : tie.Need-next-integer-requires
 next-integer-requires c κs = search needs
@@ -36,30 +37,30 @@ enum-told-2 : tie.Need-enum-told-2
 enum-told-2 c = search needs
 
 refusal-requires-2 : tie.Need-refusal-requires-2
-refusal-requires-2 c κs = search needs
+refusal-requires-2 c κs = rw (c .enum-told2 .given .1)
 
 returns-2 : tie.Need-returns-2
 unfolding compoundLine
-returns-2 c = (rw (c .refusal2 .ensures, ← (c .before .before .before .before .before .before .before .next-term .ensures), c .before .before .before .before .before .a .given .1, ← (c .before .before .before .next-integer .ensures), c .before .enum-told2 .given .1) (on-fault _ _ _ _ _), tt)
+returns-2 c = (rw (← (c .before .before .before .before .before .before .before .next-term .ensures), c .before .before .before .before .before .a .given .1, ← (c .before .before .before .next-integer .ensures), c .refusal2 .ensures) (on-fault _ _ _ _ _), tt)
 
-begin-with-requires : tie.Need-begin-with-requires
-begin-with-requires c κs =
+begin-term-requires : tie.Need-begin-term-requires
+begin-term-requires c κs =
     let p = c .before .before .before .before .before .before .before .before .before .before .before .pre in
     let ea = rw (c .before .before .before .before .before .before .a .given .1) at (c .before .before .before .before .before .before .before .before .next-term .ensures) in
-    let fa = nextTerm-far _ _ .ends _ _ ea in
+    let fa = reads-ends (lit< tt) (nextTerm-reads _ _) _ _ ea in
     let eb = rw (c .before .before .b .given .1) at (c .before .before .before .before .next-integer .ensures) in
-    let fb = nextInteger-far _ _ _ _ .ends _ _ eb in
+    let fb = reads-ends (lit< tt) (nextInteger-reads _ _ _ _) _ _ eb in
     omega arith
 
 put-requires : tie.Need-put-requires
 put-requires c κs =
     let p = c .before .before .before .before .before .before .before .before .before .before .before .before .before .before .before .pre in
     let ea = rw (c .before .before .before .before .before .before .before .before .before .before .a .given .1) at (c .before .before .before .before .before .before .before .before .before .before .before .before .next-term .ensures) in
-    let fa = nextTerm-far _ _ .ends _ _ ea in
+    let fa = reads-ends (lit< tt) (nextTerm-reads _ _) _ _ ea in
     let eb = rw (c .before .before .before .before .before .before .b .given .1) at (c .before .before .before .before .before .before .before .before .next-integer .ensures) in
-    let fb = nextInteger-far _ _ _ _ .ends _ _ eb in
-    let nbeginwith = c .before .before .before .begin-with .ensures .1 in
-    rw (c .before .before .before .begin-with .kept .0) (omega arith)
+    let fb = reads-ends (lit< tt) (nextInteger-reads _ _ _ _) _ _ eb in
+    let nbeginwith = c .before .before .before .begin-term .ensures .1 in
+    rw (c .before .before .before .begin-term .kept .0) (omega arith)
 
 counted-requires : tie.Need-counted-requires
 counted-requires c κs =
@@ -68,19 +69,19 @@ counted-requires c κs =
     let the-a = c .before .before .before .before .before .before .before .before .before .before .before .before .before .before .a in
     let next-integer = c .before .before .before .before .before .before .before .before .before .before .before .before .next-integer in
     let the-b = c .before .before .before .before .before .before .before .before .before .before .b in
-    let begin-with = c .before .before .before .before .before .before .before .begin-with in
+    let begin-term = c .before .before .before .before .before .before .before .begin-term in
     let put = c .before .before .before .put in
     let p = pre in
     let ea = rw (the-a .given .1) at (next-term .ensures) in
-    let fa = nextTerm-far _ _ .ends _ _ ea in
+    let fa = reads-ends (lit< tt) (nextTerm-reads _ _) _ _ ea in
     let eb = rw (the-b .given .1) at (next-integer .ensures) in
-    let fb = nextInteger-far _ _ _ _ .ends _ _ eb in
-    let nbeginwith = begin-with .ensures .1 in
+    let fb = reads-ends (lit< tt) (nextInteger-reads _ _ _ _) _ _ eb in
+    let nbeginwith = begin-term .ensures .1 in
     let nput = put .ensures .1 in
-    (omega arith, omega arith, rw (put .kept .0 ∙ begin-with .kept .0) (omega arith))
+    (omega arith, omega arith, rw (put .kept .0 ∙ begin-term .kept .0) (omega arith))
 
 same-length : tie.Need-same-length
-same-length c = c .before .before .counted .kept .1 .1 .1 .1 .1 .0 ∙ c .before .before .before .before .before .before .put .kept .0 ∙ c .before .before .before .before .before .before .before .before .before .before .begin-with .kept .0
+same-length c = c .before .before .counted .kept .1 .1 .1 .1 .1 .0 ∙ c .before .before .before .before .before .before .put .kept .0 ∙ c .before .before .before .before .before .before .before .before .before .before .begin-term .kept .0
 
 returns-3 : tie.Need-returns-3
 unfolding compoundLine
@@ -89,12 +90,12 @@ returns-3 c =
     let the-a = c .before .before .before .before .before .before .before .before .before .before .before .before .before .before .before .before .before .a in
     let next-integer = c .before .before .before .before .before .before .before .before .before .before .before .before .before .before .before .next-integer in
     let the-b = c .before .before .before .before .before .before .before .before .before .before .before .before .before .b in
-    let begin-with = c .before .before .before .before .before .before .before .before .before .before .begin-with in
+    let begin-term = c .before .before .before .before .before .before .before .before .before .before .begin-term in
     let put = c .before .before .before .before .before .before .put in
     let counted = c .before .before .counted in
     let eb = rw (the-b .given .1) at (next-integer .ensures) in (
-      rw (← (next-term .ensures), the-a .given .1, ← (next-integer .ensures), the-b .given .1) (counted .ensures .0 ∙ on-last _ _ _ _ _ _
-          (on-more _ _ _ (_ ∷ []) (on-more _ _ _ (_ ∷ _ ∷ _ ∷ []) (on-start _ _) (begin-with .ensures .0) (begin-with .ensures .1)) (put .ensures .0) (put .ensures .1))
+      rw (← (next-term .ensures), the-a .given .1, ← (next-integer .ensures), the-b .given .1) (counted .ensures .0 ∙ on-last _ _ _ _ _ _ _
+          (on-more _ _ _ (_ ∷ []) (on-more _ _ _ (_ ∷ _ ∷ []) (on-start _ _) (begin-term .ensures .0) (begin-term .ensures .1)) (put .ensures .0) (put .ensures .1))
           (λ us. rw (integer-forth _ _ _ _ _ _ eb))),
       counted .ensures .1,
     )
@@ -113,7 +114,7 @@ compound-line-spec =
     enum-told-2
     refusal-requires-2
     returns-2
-    begin-with-requires
+    begin-term-requires
     put-requires
     counted-requires
     same-length

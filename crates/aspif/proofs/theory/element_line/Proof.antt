@@ -3,8 +3,9 @@ use borrow.Author.Needs.{needs}
 use mathlib.Core.Path.{_∙_}
 use mathlib.Core.List.{[], _∷_}
 use native.Mathlib.Omega.{arith}
-use Rattle.fields.specs.Tape.{listed}
-use Rattle.fields.proofs.Ahead.{nextElement-far}
+use lib.Dec.{lit<}
+use Rattle.fields.specs.inner.Tape.{listed}
+use Rattle.fields.proofs.Readers.{reads-ends, nextElement-reads}
 use Rattle.fields.proofs.Taping.{wrote, stopped, on-fault, on-start, on-more, on-last}
 use Rattle.aspif.specs.Grammar.{elementLine}
 use Rattle.aspif.proofs.Coding.{literals-forth}
@@ -21,26 +22,26 @@ enum-told : tie.Need-enum-told
 enum-told c = search needs
 
 refusal-requires : tie.Need-refusal-requires
-refusal-requires c κs = search needs
+refusal-requires c κs = rw (c .enum-told .given .1)
 
 returns : tie.Need-returns
 unfolding elementLine
-returns c = (rw (c .refusal .ensures, ← (c .before .before .before .next-element .ensures), c .before .enum-told .given .1) (on-fault _ _ _ _ _), tt)
+returns c = (rw (← (c .before .before .before .next-element .ensures), c .refusal .ensures) (on-fault _ _ _ _ _), tt)
 
-begin-with-requires : tie.Need-begin-with-requires
-begin-with-requires c κs =
+begin-element-requires : tie.Need-begin-element-requires
+begin-element-requires c κs =
     let p = c .before .before .before .before .before .before .before .pre in
     let ea = rw (c .before .before .a .given .1) at (c .before .before .before .before .next-element .ensures) in
-    let fa = nextElement-far _ _ .ends _ _ ea in
+    let fa = reads-ends (lit< tt) (nextElement-reads _ _) _ _ ea in
     omega arith
 
 counted-requires : tie.Need-counted-requires
 counted-requires c κs =
     let p = c .before .before .before .before .before .before .before .before .before .before .before .pre in
     let ea = rw (c .before .before .before .before .before .before .a .given .1) at (c .before .before .before .before .before .before .before .before .next-element .ensures) in
-    let fa = nextElement-far _ _ .ends _ _ ea in
-    let nbeginwith = c .before .before .before .begin-with .ensures .1 in
-    (omega arith, omega arith, rw (c .before .before .before .begin-with .kept .0) (omega arith))
+    let fa = reads-ends (lit< tt) (nextElement-reads _ _) _ _ ea in
+    let nbeginwith = c .before .before .before .begin-element .ensures .1 in
+    (omega arith, omega arith, rw (c .before .before .before .begin-element .kept .0) (omega arith))
 
 enum-known-t : tie.Need-enum-known-t
 enum-known-t c = search needs
@@ -49,7 +50,7 @@ enum-told-2 : tie.Need-enum-told-2
 enum-told-2 c = search needs
 
 same-length : tie.Need-same-length
-same-length c = c .before .before .before .before .counted .kept .1 .1 .1 .1 .1 .0 ∙ c .before .before .before .before .before .before .before .before .begin-with .kept .0
+same-length c = c .before .before .before .before .counted .kept .1 .1 .1 .1 .1 .0 ∙ c .before .before .before .before .before .before .before .before .begin-element .kept .0
 
 returns-2 : tie.Need-returns-2
 unfolding elementLine
@@ -64,24 +65,24 @@ literals-requires : tie.Need-literals-requires
 literals-requires c κs =
     let p = c .before .before .before .before .before .before .before .before .before .before .before .before .before .before .before .before .before .before .pre in
     let ea = rw (c .before .before .before .before .before .before .before .before .before .before .before .before .before .a .given .1) at (c .before .before .before .before .before .before .before .before .before .before .before .before .before .before .before .next-element .ensures) in
-    let fa = nextElement-far _ _ .ends _ _ ea in
-    let nbeginwith = c .before .before .before .before .before .before .before .before .before .before .begin-with .ensures .1 in
+    let fa = reads-ends (lit< tt) (nextElement-reads _ _) _ _ ea in
+    let nbeginwith = c .before .before .before .before .before .before .before .before .before .before .begin-element .ensures .1 in
     let rt = rw (c .before .before .t .given .1) at (c .before .before .before .before .before .before .counted .ensures .1) in
-    (omega arith, rw (c .before .before .before .before .before .before .counted .kept .1 .1 .1 .1 .1 .0 ∙ c .before .before .before .before .before .before .before .before .before .before .begin-with .kept .0) (omega arith))
+    (omega arith, rw (c .before .before .before .before .before .before .counted .kept .1 .1 .1 .1 .1 .0 ∙ c .before .before .before .before .before .before .before .before .before .before .begin-element .kept .0) (omega arith))
 
 same-length-2 : tie.Need-same-length-2
-same-length-2 c = c .before .before .literals .kept .1 .1 .0 ∙ c .before .before .before .before .before .before .before .before .before .counted .kept .1 .1 .1 .1 .1 .0 ∙ c .before .before .before .before .before .before .before .before .before .before .before .before .before .begin-with .kept .0
+same-length-2 c = c .before .before .literals .kept .1 .1 .0 ∙ c .before .before .before .before .before .before .before .before .before .counted .kept .1 .1 .1 .1 .1 .0 ∙ c .before .before .before .before .before .before .before .before .before .before .before .before .before .begin-element .kept .0
 
 returns-3 : tie.Need-returns-3
 unfolding elementLine
 returns-3 c =
     let next-element = c .before .before .before .before .before .before .before .before .before .before .before .before .before .before .before .before .before .before .next-element in
     let the-a = c .before .before .before .before .before .before .before .before .before .before .before .before .before .before .before .before .a in
-    let begin-with = c .before .before .before .before .before .before .before .before .before .before .before .before .before .begin-with in
+    let begin-element = c .before .before .before .before .before .before .before .before .before .before .before .before .before .begin-element in
     let literals = c .before .before .literals in
     let wt = wrote listed _ _ _ (rw (c .before .before .before .before .before .t .given .1) at (c .before .before .before .before .before .before .before .before .before .counted .ensures .0)) in (
-      rw (← (next-element .ensures), the-a .given .1, wt .is) (literals .ensures .0 ∙ on-last _ _ _ _ _ _
-          (on-more _ _ _ (listed (wt .value)) (on-more _ _ _ (_ ∷ _ ∷ _ ∷ []) (on-start _ _) (begin-with .ensures .0) (begin-with .ensures .1)) (wt .tape) (wt .next))
+      rw (← (next-element .ensures), the-a .given .1, wt .is) (literals .ensures .0 ∙ on-last _ _ _ _ _ _ _
+          (on-more _ _ _ (listed (wt .value)) (on-more _ _ _ (_ ∷ _ ∷ []) (on-start _ _) (begin-element .ensures .0) (begin-element .ensures .1)) (wt .tape) (wt .next))
           (λ ls. rw literals-forth)),
       literals .ensures .1,
     )
@@ -95,7 +96,7 @@ element-line-spec =
     enum-told
     refusal-requires
     returns
-    begin-with-requires
+    begin-element-requires
     counted-requires
     enum-known-t
     enum-told-2

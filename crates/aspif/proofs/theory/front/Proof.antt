@@ -3,7 +3,8 @@ use borrow.Author.Needs.{needs}
 use mathlib.Core.Path.{refl, _∙_}
 use mathlib.Core.List.{[], _∷_}
 use native.Mathlib.Omega.{arith}
-use Rattle.fields.proofs.Ahead.{nextTerm-far, nextAtom-far}
+use lib.Dec.{lit<}
+use Rattle.fields.proofs.Readers.{by-carried, reads-ends, nextAtom-reads, nextTerm-reads}
 use Rattle.fields.proofs.Taping.{on-fault, on-start, on-more, on-last}
 use Rattle.aspif.specs.Grammar.{front}
 use Rattle.aspif.proofs.theory.front.Statement.{statement}
@@ -19,11 +20,11 @@ enum-told : tie.Need-enum-told
 enum-told c = search needs
 
 refusal-requires : tie.Need-refusal-requires
-refusal-requires c κs = search needs
+refusal-requires c κs = rw (c .enum-told .given .1)
 
 returns : tie.Need-returns
 unfolding front
-returns c = (rw (c .refusal .ensures, ← (c .before .before .before .next-atom .ensures), c .before .enum-told .given .1) (on-fault _ _ _ _ _), tt)
+returns c = (rw (← (c .before .before .before .next-atom .ensures), c .refusal .ensures) (on-fault _ _ _ _ _), tt)
 
 next-term-requires : tie.Need-next-term-requires
 next-term-requires c κs = search needs
@@ -35,43 +36,43 @@ enum-told-2 : tie.Need-enum-told-2
 enum-told-2 c = search needs
 
 refusal-requires-2 : tie.Need-refusal-requires-2
-refusal-requires-2 c κs = search needs
+refusal-requires-2 c κs = rw (c .enum-told2 .given .1)
 
 returns-2 : tie.Need-returns-2
 unfolding front
-returns-2 c = (rw (c .refusal2 .ensures, ← (c .before .before .before .before .before .before .before .next-atom .ensures), c .before .before .before .before .before .a .given .1, ← (c .before .before .before .next-term .ensures), c .before .enum-told2 .given .1) (on-fault _ _ _ _ _), tt)
+returns-2 c = (rw (← (c .before .before .before .before .before .before .before .next-atom .ensures), c .before .before .before .before .before .a .given .1, ← (c .before .before .before .next-term .ensures), c .refusal2 .ensures) (on-fault _ _ _ _ _), tt)
 
-begin-with-requires : tie.Need-begin-with-requires
-begin-with-requires c κs =
+begin-atom-requires : tie.Need-begin-atom-requires
+begin-atom-requires c κs =
     let p = c .before .before .before .before .before .before .before .before .before .before .before .pre in
     let ea = rw (c .before .before .before .before .before .before .a .given .1) at (c .before .before .before .before .before .before .before .before .next-atom .ensures) in
-    let fa = nextAtom-far _ _ _ .ends _ _ ea in
+    let fa = reads-ends (lit< tt) (nextAtom-reads _ by-carried _ _) _ _ ea in
     let eb = rw (c .before .before .b .given .1) at (c .before .before .before .before .next-term .ensures) in
-    let fb = nextTerm-far _ _ .ends _ _ eb in
+    let fb = reads-ends (lit< tt) (nextTerm-reads _ _) _ _ eb in
     omega arith
 
-put-requires : tie.Need-put-requires
-put-requires c κs =
+put-term-requires : tie.Need-put-term-requires
+put-term-requires c κs =
     let p = c .before .before .before .before .before .before .before .before .before .before .before .before .before .before .before .pre in
     let ea = rw (c .before .before .before .before .before .before .before .before .before .before .a .given .1) at (c .before .before .before .before .before .before .before .before .before .before .before .before .next-atom .ensures) in
-    let fa = nextAtom-far _ _ _ .ends _ _ ea in
+    let fa = reads-ends (lit< tt) (nextAtom-reads _ by-carried _ _) _ _ ea in
     let eb = rw (c .before .before .before .before .before .before .b .given .1) at (c .before .before .before .before .before .before .before .before .next-term .ensures) in
-    let fb = nextTerm-far _ _ .ends _ _ eb in
-    let nbeginwith = c .before .before .before .begin-with .ensures .1 in
-    rw (c .before .before .before .begin-with .kept .0) (omega arith)
+    let fb = reads-ends (lit< tt) (nextTerm-reads _ _) _ _ eb in
+    let nbeginwith = c .before .before .before .begin-atom .ensures .1 in
+    rw (c .before .before .before .begin-atom .kept .0) (omega arith)
 
 counted-requires : tie.Need-counted-requires
 counted-requires c κs =
     let ea = rw (c .before .before .before .before .before .before .before .before .before .before .before .before .before .before .a .given .1) at (c .before .before .before .before .before .before .before .before .before .before .before .before .before .before .before .before .next-atom .ensures) in
-    let fa = nextAtom-far _ _ _ .ends _ _ ea in
+    let fa = reads-ends (lit< tt) (nextAtom-reads _ by-carried _ _) _ _ ea in
     let eb = rw (c .before .before .before .before .before .before .before .before .before .before .b .given .1) at (c .before .before .before .before .before .before .before .before .before .before .before .before .next-term .ensures) in
-    let fb = nextTerm-far _ _ .ends _ _ eb in
-    let nb = c .before .before .before .before .before .before .before .begin-with .ensures .1 in
-    let np = c .before .before .before .put .ensures .1 in
-    (omega arith, omega arith, rw (c .before .before .before .put .kept .0 ∙ c .before .before .before .before .before .before .before .begin-with .kept .0) (omega arith))
+    let fb = reads-ends (lit< tt) (nextTerm-reads _ _) _ _ eb in
+    let nb = c .before .before .before .before .before .before .before .begin-atom .ensures .1 in
+    let np = c .before .before .before .put-term .ensures .1 in
+    (omega arith, omega arith, rw (c .before .before .before .put-term .kept .0 ∙ c .before .before .before .before .before .before .before .begin-atom .kept .0) (omega arith))
 
 same-length : tie.Need-same-length
-same-length c = c .before .before .counted .kept .1 .1 .1 .1 .1 .0 ∙ c .before .before .before .before .before .before .put .kept .0 ∙ c .before .before .before .before .before .before .before .before .before .before .begin-with .kept .0
+same-length c = c .before .before .counted .kept .1 .1 .1 .1 .1 .0 ∙ c .before .before .before .before .before .before .put-term .kept .0 ∙ c .before .before .before .before .before .before .before .before .before .before .begin-atom .kept .0
 
 returns-3 : tie.Need-returns-3
 unfolding front
@@ -80,11 +81,11 @@ returns-3 c =
     let the-a = c .before .before .before .before .before .before .before .before .before .before .before .before .before .before .before .before .before .a in
     let next-term = c .before .before .before .before .before .before .before .before .before .before .before .before .before .before .before .next-term in
     let the-b = c .before .before .before .before .before .before .before .before .before .before .before .before .before .b in
-    let begin-with = c .before .before .before .before .before .before .before .before .before .before .begin-with in
-    let put = c .before .before .before .before .before .before .put in
+    let begin-atom = c .before .before .before .before .before .before .before .before .before .before .begin-atom in
+    let put-term = c .before .before .before .before .before .before .put-term in
     let counted = c .before .before .counted in (
-      rw (← (next-atom .ensures), the-a .given .1, ← (next-term .ensures), the-b .given .1) (counted .ensures .0 ∙ on-last _ _ _ _ _ _
-          (on-more _ _ _ (_ ∷ []) (on-more _ _ _ (_ ∷ _ ∷ _ ∷ []) (on-start _ _) (begin-with .ensures .0) (begin-with .ensures .1)) (put .ensures .0) (put .ensures .1))
+      rw (← (next-atom .ensures), the-a .given .1, ← (next-term .ensures), the-b .given .1) (counted .ensures .0 ∙ on-last _ _ _ _ _ _ _
+          (on-more _ _ _ (_ ∷ []) (on-more _ _ _ (_ ∷ _ ∷ []) (on-start _ _) (begin-atom .ensures .0) (begin-atom .ensures .1)) (put-term .ensures .0) (put-term .ensures .1))
           (λ vs. refl)),
       counted .ensures .1,
     )
@@ -103,8 +104,8 @@ front-spec =
     enum-told-2
     refusal-requires-2
     returns-2
-    begin-with-requires
-    put-requires
+    begin-atom-requires
+    put-term-requires
     counted-requires
     same-length
     returns-3)

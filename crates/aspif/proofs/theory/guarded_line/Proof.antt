@@ -3,10 +3,11 @@ use borrow.Author.Needs.{needs}
 use mathlib.Core.Path.{_∙_}
 use mathlib.Core.List.{[], _∷_, append-assoc}
 use native.Mathlib.Omega.{arith}
-use Rattle.fields.proofs.Ahead.{nextTerm-far}
+use lib.Dec.{lit<}
+use Rattle.fields.proofs.Readers.{reads-ends, nextTerm-reads}
 use Rattle.fields.proofs.Taping.{wrote, stopped, on-fault, on-start, on-more, on-found}
 use Rattle.aspif.specs.Grammar.{guardedLine}
-use Rattle.aspif.specs.Words.{frontWords}
+use Rattle.aspif.specs.inner.Words.{guardedKind, frontWords}
 use Rattle.aspif.proofs.theory.guarded_line.Statement.{statement}
 use Rattle.aspif.proofs.theory.guarded_line.Tie as tie
 
@@ -22,12 +23,12 @@ enum-told : tie.Need-enum-told
 enum-told c = search needs
 
 same-length : tie.Need-same-length
-same-length c = c .before .before .before .before .front .kept .1 .1 .1 .1 .0
+same-length c = c .before .before .before .before .front .kept .1 .1 .1 .0
 
 returns : tie.Need-returns
 unfolding guardedLine
 returns c =
-    let qt = stopped (frontWords 96 (c .before .before .before .before .before .before .before .before .args .place)) _ _ _ (rw (c .enum-told .given .1) at (c .before .before .before .before .front .ensures .0)) in
+    let qt = stopped (frontWords guardedKind) _ _ _ (rw (c .enum-told .given .1) at (c .before .before .before .before .front .ensures .0)) in
     (rw (c .enum-told .given .1, qt) (on-fault _ _ _ _ _), c .before .before .before .before .front .ensures .1)
 
 next-term-requires : tie.Need-next-term-requires
@@ -40,19 +41,18 @@ enum-told-2 : tie.Need-enum-told-2
 enum-told-2 c = search needs
 
 refusal-requires : tie.Need-refusal-requires
-refusal-requires c κs = search needs
+refusal-requires c κs = rw (c .enum-told2 .given .1)
 
 same-length-2 : tie.Need-same-length-2
-same-length-2 c = c .before .before .before .before .before .before .before .before .before .front .kept .1 .1 .1 .1 .0
+same-length-2 c = c .before .before .before .before .before .before .before .before .before .front .kept .1 .1 .1 .0
 
 returns-2 : tie.Need-returns-2
 unfolding guardedLine
 returns-2 c =
-    let args = c .before .before .before .before .before .before .before .before .before .before .before .before .before .args in
     let front = c .before .before .before .before .before .before .before .before .before .front in
     let the-t = c .before .before .before .before .before .t in
-    let wt = wrote (frontWords 96 (args .place)) _ _ _ (rw (the-t .given .1) at (front .ensures .0)) in
-    (rw (c .refusal .ensures, wt .is, ← (c .before .before .before .next-term .ensures), c .before .enum-told2 .given .1) (on-fault _ _ _ _ _), tt)
+    let wt = wrote (frontWords guardedKind) _ _ _ (rw (the-t .given .1) at (front .ensures .0)) in
+    (rw (wt .is, ← (c .before .before .before .next-term .ensures), c .refusal .ensures) (on-fault _ _ _ _ _), tt)
 
 next-term-requires-2 : tie.Need-next-term-requires-2
 next-term-requires-2 c κs = search needs
@@ -64,34 +64,33 @@ enum-told-3 : tie.Need-enum-told-3
 enum-told-3 c = search needs
 
 refusal-requires-2 : tie.Need-refusal-requires-2
-refusal-requires-2 c κs = search needs
+refusal-requires-2 c κs = rw (c .enum-told3 .given .1)
 
 same-length-3 : tie.Need-same-length-3
-same-length-3 c = c .before .before .before .before .before .before .before .before .before .before .before .before .before .front .kept .1 .1 .1 .1 .0
+same-length-3 c = c .before .before .before .before .before .before .before .before .before .before .before .before .before .front .kept .1 .1 .1 .0
 
 returns-3 : tie.Need-returns-3
 unfolding guardedLine
 returns-3 c =
-    let args = c .before .before .before .before .before .before .before .before .before .before .before .before .before .before .before .before .before .args in
     let front = c .before .before .before .before .before .before .before .before .before .before .before .before .before .front in
     let the-t = c .before .before .before .before .before .before .before .before .before .t in
     let next-term = c .before .before .before .before .before .before .before .next-term in
     let the-a = c .before .before .before .before .before .a in
-    let wt = wrote (frontWords 96 (args .place)) _ _ _ (rw (the-t .given .1) at (front .ensures .0)) in
-    (rw (c .refusal2 .ensures, wt .is, ← (next-term .ensures), the-a .given .1, ← (c .before .before .before .next-term2 .ensures), c .before .enum-told3 .given .1) (on-fault _ _ _ _ _), tt)
+    let wt = wrote (frontWords guardedKind) _ _ _ (rw (the-t .given .1) at (front .ensures .0)) in
+    (rw (wt .is, ← (next-term .ensures), the-a .given .1, ← (c .before .before .before .next-term2 .ensures), c .refusal2 .ensures) (on-fault _ _ _ _ _), tt)
 
-put-requires : tie.Need-put-requires
-put-requires c κs =
+put-term-requires : tie.Need-put-term-requires
+put-term-requires c κs =
     let p = c .before .before .before .before .before .before .before .before .before .before .before .before .before .before .before .before .before .before .pre in
     let rt = rw (c .before .before .before .before .before .before .before .before .before .before .t .given .1) at (c .before .before .before .before .before .before .before .before .before .before .before .before .before .before .front .ensures .1) in
     let ea = rw (c .before .before .before .before .before .before .a .given .1) at (c .before .before .before .before .before .before .before .before .next-term .ensures) in
-    let fa = nextTerm-far _ _ .ends _ _ ea in
+    let fa = reads-ends (lit< tt) (nextTerm-reads _ _) _ _ ea in
     let eb = rw (c .before .before .b .given .1) at (c .before .before .before .before .next-term2 .ensures) in
-    let fb = nextTerm-far _ _ .ends _ _ eb in
-    rw (c .before .before .before .before .before .before .before .before .before .before .before .before .before .before .front .kept .1 .1 .1 .1 .0) (omega arith)
+    let fb = reads-ends (lit< tt) (nextTerm-reads _ _) _ _ eb in
+    rw (c .before .before .before .before .before .before .before .before .before .before .before .before .before .before .front .kept .1 .1 .1 .0) (omega arith)
 
-put-requires-2 : tie.Need-put-requires-2
-put-requires-2 c κs =
+put-term-requires-2 : tie.Need-put-term-requires-2
+put-term-requires-2 c κs =
     let pre = c .before .before .before .before .before .before .before .before .before .before .before .before .before .before .before .before .before .before .before .before .before .before .pre in
     let front = c .before .before .before .before .before .before .before .before .before .before .before .before .before .before .before .before .before .before .front in
     let the-t = c .before .before .before .before .before .before .before .before .before .before .before .before .before .before .t in
@@ -99,42 +98,41 @@ put-requires-2 c κs =
     let the-a = c .before .before .before .before .before .before .before .before .before .before .a in
     let next-term2 = c .before .before .before .before .before .before .before .before .next-term2 in
     let the-b = c .before .before .before .before .before .before .b in
-    let put = c .before .before .before .put in
+    let put-term = c .before .before .before .put-term in
     let p = pre in
     let rt = rw (the-t .given .1) at (front .ensures .1) in
     let ea = rw (the-a .given .1) at (next-term .ensures) in
-    let fa = nextTerm-far _ _ .ends _ _ ea in
+    let fa = reads-ends (lit< tt) (nextTerm-reads _ _) _ _ ea in
     let eb = rw (the-b .given .1) at (next-term2 .ensures) in
-    let fb = nextTerm-far _ _ .ends _ _ eb in
-    let nput = put .ensures .1 in
-    rw (put .kept .0 ∙ front .kept .1 .1 .1 .1 .0) (omega arith)
+    let fb = reads-ends (lit< tt) (nextTerm-reads _ _) _ _ eb in
+    let nput = put-term .ensures .1 in
+    rw (put-term .kept .0 ∙ front .kept .1 .1 .1 .0) (omega arith)
 
 same-length-4 : tie.Need-same-length-4
-same-length-4 c = c .before .before .put2 .kept .0 ∙ c .before .before .before .before .before .before .put .kept .0 ∙ c .before .before .before .before .before .before .before .before .before .before .before .before .before .before .before .before .before .before .before .before .before .front .kept .1 .1 .1 .1 .0
+same-length-4 c = c .before .before .put-term2 .kept .0 ∙ c .before .before .before .before .before .before .put-term .kept .0 ∙ c .before .before .before .before .before .before .before .before .before .before .before .before .before .before .before .before .before .before .before .before .before .front .kept .1 .1 .1 .0
 
 returns-4 : tie.Need-returns-4
 unfolding guardedLine
 returns-4 c =
-    let args = c .before .before .before .before .before .before .before .before .before .before .before .before .before .before .before .before .before .before .before .before .before .before .before .before .before .args in
     let front = c .before .before .before .before .before .before .before .before .before .before .before .before .before .before .before .before .before .before .before .before .before .front in
     let the-t = c .before .before .before .before .before .before .before .before .before .before .before .before .before .before .before .before .before .t in
     let next-term = c .before .before .before .before .before .before .before .before .before .before .before .before .before .before .before .next-term in
     let the-a = c .before .before .before .before .before .before .before .before .before .before .before .before .before .a in
     let next-term2 = c .before .before .before .before .before .before .before .before .before .before .before .next-term2 in
     let the-b = c .before .before .before .before .before .before .before .before .before .b in
-    let put = c .before .before .before .before .before .before .put in
-    let put2 = c .before .before .put2 in
+    let put-term = c .before .before .before .before .before .before .put-term in
+    let put-term2 = c .before .before .put-term2 in
     let p = c .before .before .before .before .before .before .before .before .before .before .before .before .before .before .before .before .before .before .before .before .before .before .before .before .before .pre in
-    let wt = wrote (frontWords 96 (args .place)) _ _ _ (rw (the-t .given .1) at (front .ensures .0)) in
+    let wt = wrote (frontWords guardedKind) _ _ _ (rw (the-t .given .1) at (front .ensures .0)) in
     let rt = rw (the-t .given .1) at (front .ensures .1) in
     let ea = rw (the-a .given .1) at (next-term .ensures) in
-    let fa = nextTerm-far _ _ .ends _ _ ea in
+    let fa = reads-ends (lit< tt) (nextTerm-reads _ _) _ _ ea in
     let eb = rw (the-b .given .1) at (next-term2 .ensures) in
-    let fb = nextTerm-far _ _ .ends _ _ eb in
-    let nput = put .ensures .1 in
-    let nput2 = put2 .ensures .1 in (
+    let fb = reads-ends (lit< tt) (nextTerm-reads _ _) _ _ eb in
+    let nput = put-term .ensures .1 in
+    let nput2 = put-term2 .ensures .1 in (
       rw (wt .is, ← (next-term .ensures), the-a .given .1, ← (next-term2 .ensures), the-b .given .1) (on-found _ _ _ _ _ _
-          (on-more _ _ _ (_ ∷ []) (on-more _ _ _ (_ ∷ []) (on-more _ _ _ (frontWords 96 (args .place) (wt .value)) (on-start _ _) (wt .tape) (wt .next)) (put .ensures .0) (put .ensures .1)) (put2 .ensures .0) (put2 .ensures .1))
+          (on-more _ _ _ (_ ∷ []) (on-more _ _ _ (_ ∷ []) (on-more _ _ _ (frontWords guardedKind (wt .value)) (on-start _ _) (wt .tape) (wt .next)) (put-term .ensures .0) (put-term .ensures .1)) (put-term2 .ensures .0) (put-term2 .ensures .1))
           (rw append-assoc)),
       omega arith,
     )
@@ -160,7 +158,7 @@ guarded-line-spec =
     refusal-requires-2
     same-length-3
     returns-3
-    put-requires
-    put-requires-2
+    put-term-requires
+    put-term-requires-2
     same-length-4
     returns-4)

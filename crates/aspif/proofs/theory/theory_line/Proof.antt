@@ -3,19 +3,19 @@ use Prim.Native.Nat.{ℕ}
 use mathlib.Core.Path.{_≡_, refl, _∙_}
 use mathlib.Core.List.{List}
 use borrow.Author.Needs.{needs}
-use Rattle.fields.specs.Reading.{Reading, found, fault, bind}
-use Rattle.fields.specs.Tape.{onTape}
-use Rattle.aspif.specs.Statements.{theory}
+use Rattle.fields.specs.Reading.{Reading, found, fault, andThen}
+use Rattle.fields.specs.inner.Tape.{onTape}
+use Rattle.aspif.specs.Statements.{unguarded, states, theory}
 use Rattle.aspif.specs.Grammar.{Front, theoryLine}
-use Rattle.aspif.specs.Words.{wordsAt, frontWords}
+use Rattle.aspif.specs.inner.Words.{atomKind, frontWords, wordsOf}
 use Rattle.aspif.proofs.theory.theory_line.Statement.{statement}
 use Rattle.aspif.proofs.theory.theory_line.Tie as tie
 
-whole : (place : ℕ) (t : List ℕ) (o : ℕ) (r : Reading Front)
-    → onTape (frontWords 95 place) t o r ≡ onTape (wordsAt place) t o (bind r (λ f n. found (theory (f .atom) (f .name) (f .elements)) n))
+whole : (t : List ℕ) (o : ℕ) (r : Reading Front)
+    → onTape (frontWords atomKind) t o r ≡ onTape wordsOf t o (andThen r (λ f n. found (theory (states (f .atom) (f .name) (f .elements) unguarded)) n))
 unfolding onTape
-whole place t o (found f n) = refl
-whole place t o (fault k p) = refl
+whole t o (found f n) = refl
+whole t o (fault k p) = refl
 
 front-requires : tie.Need-front-requires
 front-requires c κs = search needs
@@ -25,7 +25,7 @@ same-length c = search needs
 
 returns : tie.Need-returns
 unfolding theoryLine
-returns c = (c .before .before .front .ensures .0 ∙ whole _ _ _ _, c .before .before .front .ensures .1)
+returns c = (c .before .before .front .ensures .0 ∙ whole _ _ _, c .before .before .front .ensures .1)
 
 pub theory-line-spec : {M : Type 1} → statement M
 theory-line-spec =

@@ -1,6 +1,7 @@
 -- `aspif::theory::theory_of` meets its contract. Assumes nothing.
 use borrow.Author.Needs.{needs}
 use borrow.Author.Tests.{eq-eqb, ne-eqb}
+use Rattle.fields.specs.inner.Tape.{onTape}
 use Rattle.aspif.specs.Grammar.{theoryOf}
 use Rattle.aspif.proofs.theory.theory_of.Statement.{statement}
 use Rattle.aspif.proofs.theory.theory_of.Tie as tie
@@ -82,13 +83,18 @@ same-length-6 c = search needs
 returns-6 : tie.Need-returns-6
 unfolding theoryOf
 returns-6 c =
-    let if1 = c .before .before .before .before .before .before .before .before .if1 in
-    let if2 = c .before .before .before .before .before .before .before .if2 in
-    let if3 = c .before .before .before .before .before .before .if3 in
-    let if4 = c .before .before .before .before .before .if4 in
-    let if5 = c .before .before .before .before .if5 in
+    let if1 = c .before .before .before .before .before .before .before .before .before .if1 in
+    let if2 = c .before .before .before .before .before .before .before .before .if2 in
+    let if3 = c .before .before .before .before .before .before .before .if3 in
+    let if4 = c .before .before .before .before .before .before .if4 in
+    let if5 = c .before .before .before .before .before .if5 in
+    let if6 = c .before .before .before .before .if6 in
     let guarded-line = c .before .before .guarded-line in
-    (rw (ne-eqb _ _ (if1 .left), ne-eqb _ _ (if2 .left), ne-eqb _ _ (if3 .left), ne-eqb _ _ (if4 .left), ne-eqb _ _ (if5 .left)) (guarded-line .ensures .0), guarded-line .ensures .1)
+    (rw (ne-eqb _ _ (if1 .left), ne-eqb _ _ (if2 .left), ne-eqb _ _ (if3 .left), ne-eqb _ _ (if4 .left), ne-eqb _ _ (if5 .left), eq-eqb _ _ (if6 .taken)) (guarded-line .ensures .0), guarded-line .ensures .1)
+
+returns-7 : tie.Need-returns-7
+unfolding theoryOf onTape
+returns-7 c = (rw (ne-eqb _ _ (c .before .before .before .before .before .if1 .left), ne-eqb _ _ (c .before .before .before .before .if2 .left), ne-eqb _ _ (c .before .before .before .if3 .left), ne-eqb _ _ (c .before .before .if4 .left), ne-eqb _ _ (c .before .if5 .left), ne-eqb _ _ (c .if6 .left)), tt)
 
 pub theory-of-spec : {M : Type 1} → statement M
 theory-of-spec =
@@ -111,4 +117,5 @@ theory-of-spec =
     returns-5
     guarded-line-requires
     same-length-6
-    returns-6)
+    returns-6
+    returns-7)

@@ -1,7 +1,7 @@
 -- `word_at`: what is read, or 0 past the end, is what `word` says.
 use Prim.Native.Nat.{_+_}
 use mathlib.Core.Path.{refl}
-use Rattle.aspif.specs.Words.{word}
+use Rattle.aspif.specs.inner.Words.{word}
 use Rattle.aspif.proofs.Walking.{word-out}
 use native.Mathlib.Omega.{arith}
 use borrow.Author.Needs.{needs}

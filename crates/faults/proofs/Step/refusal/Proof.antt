@@ -1,5 +1,6 @@
 -- `faults::Step::refusal` meets its contract. Assumes nothing.
 use borrow.Author.Needs.{needs}
+use mathlib.Core.Bool.{true≢false}
 use Rattle.faults.proofs.Step.refusal.Statement.{statement}
 use Rattle.faults.proofs.Step.refusal.Tie as tie
 
@@ -10,10 +11,10 @@ enum-known-self-2 : tie.Need-enum-known-self-2
 enum-known-self-2 c = search needs
 
 returns : tie.Need-returns
-returns c = rw (c .before .self .given .1)
+returns c = absurd (true≢false (rw (c .before .self .given .1) at (c .before .before .before .pre)))
 
 returns-2 : tie.Need-returns-2
-returns-2 c = search needs
+returns-2 c = rw (c .before .self2 .given .1)
 
 pub refusal-spec : {M : Type 1} → statement M
 refusal-spec = tie.close (tie.spec enum-known-self enum-known-self-2 returns returns-2)

@@ -15,11 +15,11 @@ enum-told : tie.Need-enum-told
 enum-told c = search needs
 
 refusal-requires : tie.Need-refusal-requires
-refusal-requires c κs = search needs
+refusal-requires c κs = rw (c .enum-told .given .1)
 
 returns : tie.Need-returns
 unfolding atom
-returns c = rw (c .refusal .ensures, ← (c .before .before .before .natural .ensures), c .before .enum-told .given .1)
+returns c = rw (← (c .before .before .before .natural .ensures), c .refusal .ensures)
 
 returns-2 : tie.Need-returns-2
 unfolding atom

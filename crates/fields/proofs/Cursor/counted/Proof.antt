@@ -2,8 +2,8 @@
 use native.Mathlib.Omega.{arith}
 use borrow.Author.Needs.{needs}
 use Rattle.fields.specs.Fields.{counted}
-use Rattle.fields.specs.Tape.{onTape}
-use Rattle.fields.proofs.Ahead.{nextNatural-far}
+use Rattle.fields.specs.inner.Tape.{onTape}
+use Rattle.fields.proofs.Readers.{nextNatural-within}
 use Rattle.fields.proofs.Cursor.counted.Statement.{statement}
 use Rattle.fields.proofs.Cursor.counted.Tie as tie
 
@@ -17,16 +17,16 @@ enum-told : tie.Need-enum-told
 enum-told c = search needs
 
 refusal-requires : tie.Need-refusal-requires
-refusal-requires c κs = search needs
+refusal-requires c κs = rw (c .enum-told .given .1)
 
 returns : tie.Need-returns
 unfolding counted onTape
-returns c = (rw (c .refusal .ensures, ← (c .before .before .before .next-natural .ensures), c .before .enum-told .given .1), tt)
+returns c = (rw (← (c .before .before .before .next-natural .ensures), c .refusal .ensures), tt)
 
 listed-requires : tie.Need-listed-requires
 listed-requires c κs =
     let n = rw (c .before .before .a .given .1) at (c .before .before .before .before .next-natural .ensures) in
-    let h = nextNatural-far _ _ _ _ .ends _ _ n in
+    let h = nextNatural-within _ _ _ _ _ _ n in
     (omega arith, omega arith, search needs)
 
 same-length : tie.Need-same-length

@@ -3,9 +3,10 @@ use borrow.Author.Needs.{needs}
 use borrow.Author.Tests.{eq-eqb, ne-eqb}
 use native.Mathlib.Omega.{arith}
 use mathlib.Core.Path.{sym, ap, _∙_}
-use Rattle.fields.specs.Values.{asWord}
-use Rattle.fields.specs.Fields.{integer}
-use Rattle.fields.proofs.Naturals.{natural-within, there}
+use Rattle.fields.specs.inner.Values.{asWord}
+use Rattle.fields.specs.Fields.{minusSign, integer}
+use Rattle.fields.proofs.Naturals.{there}
+use Rattle.fields.proofs.Readers.{by-bounds, natural-reads, reads-ends}
 use lib.Dec.{lit<}
 use Rattle.fields.proofs.Cursor.integer.Statement.{statement}
 use Rattle.fields.proofs.Cursor.integer.Tie as tie
@@ -14,7 +15,7 @@ peek-requires : tie.Need-peek-requires
 peek-requires c κs = search needs
 
 minus-requires : tie.Need-minus-requires
-minus-requires c κs = (search needs, there 45 _ _ (lit< tt) (sym (c .before .peek .ensures) ∙ c .if1 .taken))
+minus-requires c κs = (search needs, there minusSign _ _ (lit< tt) (sym (c .before .peek .ensures) ∙ c .if1 .taken))
 
 returns : tie.Need-returns
 unfolding integer
@@ -34,7 +35,7 @@ unfolding integer
 returns-2 c = rw (← (c .before .before .before .before .peek .ensures), ne-eqb _ _ (c .before .before .before .if1 .left), ← (c .before .before .natural .ensures), c .enum-told .given .1)
 
 mul-code : tie.Need-mul-code
-mul-code c = omega (arith, natural-within _ _ _ _ _ _ (sym (ap asWord (c .before .a .given .1)) ∙ c .before .before .before .natural .ensures) .0)
+mul-code c = omega (arith, reads-ends (lit< tt) (natural-reads 5 _ by-bounds _ _) _ _ (sym (ap asWord (c .before .a .given .1)) ∙ c .before .before .before .natural .ensures) .0)
 
 returns-3 : tie.Need-returns-3
 unfolding integer

@@ -1,6 +1,6 @@
 -- `fields::Cursor::item` meets its contract. Assumes nothing.
 use borrow.Author.Needs.{needs}
-use Rattle.fields.specs.Fields.{item}
+use Rattle.fields.specs.Fields.{nextTerm, nextElement, item}
 use Rattle.fields.proofs.Cursor.item.Statement.{statement}
 use Rattle.fields.proofs.Cursor.item.Tie as tie
 
@@ -19,14 +19,14 @@ next-literal-requires c κs = search needs
 enum-told-3 : tie.Need-enum-told-3
 enum-told-3 c = search needs
 
-term-word-requires : tie.Need-term-word-requires
-term-word-requires c κs = search needs
+next-natural-requires : tie.Need-next-natural-requires
+next-natural-requires c κs = search needs
 
 enum-told-4 : tie.Need-enum-told-4
 enum-told-4 c = search needs
 
-element-word-requires : tie.Need-element-word-requires
-element-word-requires c κs = search needs
+next-natural-requires-2 : tie.Need-next-natural-requires-2
+next-natural-requires-2 c κs = search needs
 
 enum-told-5 : tie.Need-enum-told-5
 enum-told-5 c = search needs
@@ -43,12 +43,12 @@ unfolding item
 returns-2 c = rw (c .before .enum-told2 .given .1) (c .next-literal .ensures)
 
 returns-3 : tie.Need-returns-3
-unfolding item
-returns-3 c = rw (c .before .enum-told3 .given .1) (c .term-word .ensures)
+unfolding item nextTerm
+returns-3 c = rw (c .before .enum-told3 .given .1) (c .next-natural .ensures)
 
 returns-4 : tie.Need-returns-4
-unfolding item
-returns-4 c = rw (c .before .enum-told4 .given .1) (c .element-word .ensures)
+unfolding item nextElement
+returns-4 c = rw (c .before .enum-told4 .given .1) (c .next-natural2 .ensures)
 
 returns-5 : tie.Need-returns-5
 unfolding item
@@ -63,9 +63,9 @@ item-spec =
     enum-told-2
     next-literal-requires
     enum-told-3
-    term-word-requires
+    next-natural-requires
     enum-told-4
-    element-word-requires
+    next-natural-requires-2
     enum-told-5
     char-at-requires
     returns

@@ -3,11 +3,12 @@ use borrow.Author.Needs.{needs}
 use Prim.Native.Nat.{_≤_, _<_}
 use mathlib.Core.Path.{_≡_, refl, sym, ap, _∙_}
 use native.Mathlib.Omega.{arith}
+use lib.Dec.{lit<}
 use lib.ListN.{length, length-set}
 use Rattle.fields.specs.Fields.{items}
-use Rattle.fields.specs.Tape.{onTape, bare}
-use Rattle.fields.specs.Values.{asWord}
-use Rattle.fields.proofs.Ahead.{item-ahead}
+use Rattle.fields.specs.inner.Tape.{onTape, bare}
+use Rattle.fields.specs.inner.Values.{asWord}
+use Rattle.fields.proofs.Readers.{item-reads, reads-ends}
 use Rattle.fields.proofs.Taping.{items-none, items-more, items-stop}
 use Rattle.fields.proofs.Cursor.items.Statement.{statement}
 use Rattle.fields.proofs.Cursor.items.Tie as tie
@@ -25,7 +26,9 @@ abbrev μ-loop : tie.MeasureT-loop
 ahead : (c : tie.After-known-told Inv-loop μ-loop)
     → (c .before .before .before .before .before .loop .c .at < c .before .a .given .0 .1 .0 .at)
     × (c .before .a .given .0 .1 .0 .at ≤ length (c .before .before .before .before .before .before .before .before .args .s .now))
-ahead c = item-ahead _ _ _ .ends _ _ (sym (ap asWord (c .before .a .given .1)) ∙ c .before .before .before .item .ensures)
+ahead c =
+    let h = reads-ends (lit< tt) (item-reads _ _ _) _ _ (sym (ap asWord (c .before .a .given .1)) ∙ c .before .before .before .item .ensures) in
+    (omega arith, h .2)
 
 loop-holds : tie.Need-loop-holds Inv-loop μ-loop
 loop-holds c = (refl, search needs, refl)
@@ -40,7 +43,7 @@ enum-told : tie.Need-enum-told Inv-loop μ-loop
 enum-told c = search needs
 
 refusal-requires : tie.Need-refusal-requires Inv-loop μ-loop
-refusal-requires c κs = search needs
+refusal-requires c κs = rw (c .enum-told .given .1)
 
 same-length : tie.Need-same-length Inv-loop μ-loop
 same-length c = search needs
@@ -49,7 +52,7 @@ returns : tie.Need-returns Inv-loop μ-loop
 returns c =
     let loop = c .before .before .before .before .before .loop in
     let loop-test = c .before .before .before .before .loop-test in
-    (rw (c .refusal .ensures, c .before .enum-told .given .1) (items-stop _ _ _ _ _ _ _ _ (loop-test .taken) (sym (ap asWord (c .before .enum-told .given .1)) ∙ c .before .before .before .item .ensures)) ∙ loop .inv .0, tt)
+    (items-stop _ _ _ _ _ _ _ _ (loop-test .taken) (sym (c .refusal .ensures) ∙ c .before .before .before .item .ensures) ∙ loop .inv .0, tt)
 
 mul-tape : tie.Need-mul-tape Inv-loop μ-loop
 mul-tape c = omega (arith, ahead c)

@@ -27,11 +27,11 @@ enum-told-2 : tie.Need-enum-told-2
 enum-told-2 c = search needs
 
 refusal-requires : tie.Need-refusal-requires
-refusal-requires c κs = search needs
+refusal-requires c κs = rw (c .enum-told2 .given .1)
 
 returns-2 : tie.Need-returns-2
 unfolding naturalThen
-returns-2 c = rw (c .refusal .ensures, ← (c .before .before .before .before .before .before .before .next-natural .ensures), c .before .before .before .before .before .a .given .1, ← (c .before .before .before .byte .ensures), c .before .enum-told2 .given .1)
+returns-2 c = rw (← (c .before .before .before .before .before .before .before .next-natural .ensures), c .before .before .before .before .before .a .given .1, ← (c .before .before .before .byte .ensures), c .refusal .ensures)
 
 returns-3 : tie.Need-returns-3
 unfolding naturalThen

@@ -14,10 +14,10 @@ enum-told : tie.Need-enum-told
 enum-told c = search needs
 
 refusal-requires : tie.Need-refusal-requires
-refusal-requires c κs = search needs
+refusal-requires c κs = rw (c .enum-told .given .1)
 
 returns : tie.Need-returns
-returns c = rw (c .refusal .ensures, ← (c .before .before .before .byte .ensures), c .before .enum-told .given .1)
+returns c = rw (← (c .before .before .before .byte .ensures), c .refusal .ensures)
 
 literal-requires : tie.Need-literal-requires
 literal-requires c κs = search needs

@@ -14,11 +14,11 @@ enum-told : tie.Need-enum-told
 enum-told c = search needs
 
 refusal-requires : tie.Need-refusal-requires
-refusal-requires c κs = search needs
+refusal-requires c κs = rw (c .enum-told .given .1)
 
 returns : tie.Need-returns
 unfolding nextNatural
-returns c = rw (c .refusal .ensures, ← (c .before .before .before .byte .ensures), c .before .enum-told .given .1)
+returns c = rw (← (c .before .before .before .byte .ensures), c .refusal .ensures)
 
 natural-requires : tie.Need-natural-requires
 natural-requires c κs = search needs

@@ -10,10 +10,10 @@ use Rattle.fields.proofs.digits.value_of.Statement.{statement}
 use Rattle.fields.proofs.digits.value_of.Tie as tie
 
 abbrev Inv-loop : tie.InvT-loop
-Inv-loop f most v₀ i₀ v i = (value v (drop i f) ≡ value 0 f) × (v ≤ most)
+Inv-loop f most bound v₀ i₀ v i = (value v (drop i f) ≡ value 0 f) × (v ≤ most)
 
 abbrev μ-loop : tie.MeasureT-loop
-μ-loop f most v₀ i₀ v i = length f - i
+μ-loop f most bound v₀ i₀ v i = length f - i
 
 loop-holds : tie.Need-loop-holds Inv-loop μ-loop
 loop-holds c = (refl, omega arith)
@@ -55,6 +55,9 @@ loop-again c =
     let f = l .before .before .args .f .now in
     (sym (value-more f (l .loop .i) (l .loop .v) _ (search needs) (c .before .digit .ensures)) ∙ l .loop .inv .0, search needs)
 
+cast-result : tie.Need-cast-result Inv-loop μ-loop
+cast-result c = search needs
+
 returns-2 : tie.Need-returns-2 Inv-loop μ-loop
 returns-2 c =
     let l = c .before in
@@ -76,4 +79,5 @@ value-of-spec =
     add-i
     loop-less
     loop-again
+    cast-result
     returns-2)

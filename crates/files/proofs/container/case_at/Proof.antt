@@ -3,8 +3,8 @@ use mathlib.Core.Path.{sym, ap, _∙_}
 use native.Mathlib.Omega.{arith}
 use borrow.Author.Needs.{needs}
 use borrow.Author.Tests.{eq-eqb, ne-eqb}
-use Rattle.fields.specs.Values.{asWord}
-use Rattle.files.specs.Cases.{caseAt}
+use Rattle.fields.specs.inner.Values.{asWord}
+use Rattle.files.specs.inner.Cases.{caseAt}
 use Rattle.files.proofs.Cases.{name-end, length-in}
 use Rattle.files.proofs.container.case_at.Statement.{statement}
 use Rattle.files.proofs.container.case_at.Tie as tie

@@ -4,7 +4,7 @@ use mathlib.Core.Path.{_≡_, refl, _∙_}
 use borrow.Author.Needs.{needs}
 use lib.ListN.{length}
 use Rattle.basics.specs.inner.Bitmaps.{markedFrom}
-use Rattle.timetable.specs.Given.{timeAt}
+use Rattle.timetable.specs.inner.Given.{timeAt}
 use Rattle.judge.specs.Judged.{inTime}
 use Rattle.judge.proofs.Lateness.{late-pass, late-time, late-found, late-end}
 use Rattle.judge.proofs.timed.late.Statement.{statement}

@@ -3,7 +3,8 @@ use Prim.Native.Nat.{ℕ}
 use mathlib.Core.Path.{sym, _∙_}
 use native.Mathlib.Omega.{arith}
 use lib.ListN.{length-replicate}
-use Rattle.terms.proofs.Witness.{new-marks}
+use Rattle.faults.specs.inner.Places.{termPlaces}
+use Rattle.terms.proofs.Marking.{marks-zeros}
 use Rattle.judge.proofs.Blank.{part-long, still-roomy}
 use Rattle.judge.proofs.Gathering.{gathered-labelled}
 use Rattle.judge.proofs.Settling.{settled-timed}
@@ -17,7 +18,7 @@ slice-aggregate-mark-names c = search needs
 mark-names-requires : tie.Need-mark-names-requires
 mark-names-requires c κs =
     let f = c .before .before .before .before .before .before .before .before .before .pre .0 .0 in
-    (omega (arith, f .few, f .roomy .for-xs), omega (arith, f .few, f .roomy .for-ys), new-marks 1024)
+    (omega (arith, f .few, f .roomy .for-xs), omega (arith, f .few, f .roomy .for-ys), marks-zeros termPlaces)
 
 gather-requires : tie.Need-gather-requires
 gather-requires c κs = c .before .before .before .before .before .before .before .before .before .before .before .before .before .before .before .pre .0
@@ -70,7 +71,7 @@ settled-requires c κs =
     let p = c .before .before .before .before .before .before .before .before .before .before .before .before .before .before .before .before .before .before .before .before .before .before .before .before .before .before .before .before .before .before .pre in
     let g = c .before .before .before .before .before .before .before .before .before .before .before .before .before .before .gather in
     let k = g .kept in
-    ((gathered-labelled _ _ _ _ _ (p .0 .0) _ (p .0 .1) _ _ _ _ _ (g .ensures) (still-roomy (p .0 .0 .roomy) (k .0) (k .1 .0) (k .1 .1 .0) (k .1 .1 .1 .0)), c .before .before .before .before .before .before .before .before .before .before .before .before .before .before .before .before .before .before .before .before .mark-names .kept .1 .1 .1 .0 ∙ length-replicate {A = ℕ} 1024 0), (p .0 .1, p .1))
+    ((gathered-labelled _ _ _ _ _ (p .0 .0) _ (p .0 .1) _ _ _ _ _ (g .ensures) (still-roomy (p .0 .0 .roomy) (k .0) (k .1 .0) (k .1 .1 .0) (k .1 .1 .1 .0)), c .before .before .before .before .before .before .before .before .before .before .before .before .before .before .before .before .before .before .before .before .mark-names .kept .1 .1 .1 .0 ∙ length-replicate {A = ℕ} termPlaces 0), (p .0 .1, p .1))
 
 same-length : tie.Need-same-length
 same-length c = search needs

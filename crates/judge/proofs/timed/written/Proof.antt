@@ -14,12 +14,12 @@ enum-told-2 : tie.Need-enum-told-2
 enum-told-2 c = search needs
 
 refusal-requires : tie.Need-refusal-requires
-refusal-requires c κs = search needs
+refusal-requires c κs = rw (c .enum-told2 .given .1)
 
 returns : tie.Need-returns
 returns c =
     let args = c .before .before .before .before .before .before .before .before .args in
-    λ cycle. refused-late (args .names .now) (args .times .now) (args .x .now) (args .room .now) _ (c .before .before .before .late .ensures) cycle _ _ (c .before .enum-told2 .given .1) (c .refusal .ensures)
+    λ cycle. refused-late (args .names .now) (args .times .now) (args .x .now) (args .room .now) _ (c .before .before .before .late .ensures) cycle _ (c .refusal .result) (c .before .enum-told2 .given .1) (c .refusal .ensures)
 
 write-requires : tie.Need-write-requires
 write-requires c κs = search needs

@@ -1,7 +1,7 @@
 -- `is_minus`: a term number, that of the string `-`.
 use mathlib.Core.Path.{_∙_}
-use Rattle.terms.specs.Tables.{lookIn}
-use Rattle.terms.proofs.Strings.{minus-other, minus-term}
+use Rattle.terms.specs.inner.Tables.{lookIn}
+use Rattle.terms.proofs.Reading.{minus-other, minus-term}
 use borrow.Author.Needs.{needs}
 use Rattle.terms.proofs.difference.is_minus.Statement.{statement}
 use Rattle.terms.proofs.difference.is_minus.Tie as tie

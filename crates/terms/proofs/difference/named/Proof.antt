@@ -1,6 +1,6 @@
--- `named`: the entry of the term is that of the string.
+-- `named`: the entry of a string, whose bytes are compared.
 use mathlib.Core.Path.{_∙_}
-use Rattle.terms.proofs.Strings.{named-is}
+use Rattle.terms.proofs.Reading.{string-out, string-not, string-is}
 use borrow.Author.Needs.{needs}
 use Rattle.terms.proofs.difference.named.Statement.{statement}
 use Rattle.terms.proofs.difference.named.Tie as tie
@@ -8,11 +8,26 @@ use Rattle.terms.proofs.difference.named.Tie as tie
 term-entry-requires : tie.Need-term-entry-requires
 term-entry-requires c κs = search needs
 
-is-string-requires : tie.Need-is-string-requires
-is-string-requires c κs = search needs
-
 returns : tie.Need-returns
-returns c = c .is-string .ensures ∙ named-is _ _ _ _ _ (c .before .term-entry .ensures)
+returns c = string-out _ _ _ _ (c .before .term-entry .ensures) _ (c .if1 .taken)
+
+sub-q : tie.Need-sub-q
+sub-q c = search needs
+
+word-at-requires : tie.Need-word-at-requires
+word-at-requires c κs = search needs
+
+returns-2 : tie.Need-returns-2
+returns-2 c = string-not _ _ _ _ (c .before .before .before .term-entry .ensures) (c .before .before .if1 .left) _ (c .before .word-at .ensures .0) _ (c .if2 .taken)
+
+word-at-requires-2 : tie.Need-word-at-requires-2
+word-at-requires-2 c κs = search needs
+
+same-requires : tie.Need-same-requires
+same-requires c κs = search needs
+
+returns-3 : tie.Need-returns-3
+returns-3 c = c .same .ensures ∙ string-is _ _ _ _ (c .before .before .before .before .before .term-entry .ensures) (c .before .before .before .before .if1 .left) _ (c .before .before .before .word-at .ensures .0) _ _ (c .before .before .if2 .left) (c .before .word-at2 .ensures .0)
 
 pub named-spec : {M : Type 1} → statement M
-named-spec = tie.close (tie.spec term-entry-requires is-string-requires returns)
+named-spec = tie.close (tie.spec term-entry-requires returns sub-q word-at-requires returns-2 word-at-requires-2 same-requires returns-3)

@@ -4,17 +4,17 @@ use mathlib.Core.Path.{_≡_, _∙_}
 use native.Mathlib.Omega.{arith}
 use lib.ListN.{length}
 use Rattle.terms.specs.Terms.{sameBytes}
-use Rattle.terms.specs.Tables.{wordsAt}
+use Rattle.aspif.specs.inner.Words.{wordsFrom}
 use Rattle.terms.proofs.Strings.{rest, same-start, same-end, same-short, same-other, same-on}
 use borrow.Author.Needs.{needs}
 use Rattle.terms.proofs.difference.same.Statement.{statement}
 use Rattle.terms.proofs.difference.same.Tie as tie
 
 abbrev Inv-loop : tie.InvT-loop
-Inv-loop tape p n wanted left₀ i₀ left i = rest tape (p + (i + 4)) left wanted i ≡ sameBytes (wordsAt tape (p + 4) n) wanted
+Inv-loop tape q n wanted left₀ i₀ left i = rest tape (q + (i + 3)) left wanted i ≡ sameBytes (wordsFrom tape (q + 3) n) wanted
 
 abbrev μ-loop : tie.MeasureT-loop
-μ-loop tape p n wanted left₀ i₀ left i = length wanted - i
+μ-loop tape q n wanted left₀ i₀ left i = length wanted - i
 
 loop-holds : tie.Need-loop-holds Inv-loop μ-loop
 loop-holds c = same-start _ _ _ _

@@ -1,6 +1,6 @@
 -- `role_of`: the tests are those of `roleOf`, in its order.
 use borrow.Author.Tests.{eq-eqb, ne-eqb}
-use Rattle.terms.specs.Tables.{roleOf}
+use Rattle.terms.specs.inner.Tables.{roleOf}
 use Rattle.terms.proofs.lines.role_of.Statement.{statement}
 use Rattle.terms.proofs.lines.role_of.Tie as tie
 

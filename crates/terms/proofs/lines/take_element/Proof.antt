@@ -1,13 +1,17 @@
 -- `take_element`: a faulty line is refused; entering another adds what it says.
 use mathlib.Core.Path.{sym, _∙_}
 use native.Mathlib.Omega.{arith}
-use Rattle.terms.proofs.Turns.{turn-stops, counted-stops, element-goes}
+use Rattle.terms.proofs.ByKind.{element-room}
+use Rattle.terms.proofs.Turns.{turn-refused, element-turned}
 use borrow.Author.Needs.{needs}
 use Rattle.terms.proofs.lines.take_element.Statement.{statement}
 use Rattle.terms.proofs.lines.take_element.Tie as tie
 
+add-q : tie.Need-add-q
+add-q c = omega (arith, c .before .before .before .pre .0 .stand .inside)
+
 bad-element-requires : tie.Need-bad-element-requires
-bad-element-requires c κs = search needs
+bad-element-requires c κs = (omega (arith, c .before .before .before .before .pre .0 .stand .inside), c .before .before .before .before .pre .1)
 
 refuse-requires : tie.Need-refuse-requires
 refuse-requires c κs = search needs
@@ -16,38 +20,22 @@ same-length : tie.Need-same-length
 same-length c = search needs
 
 returns : tie.Need-returns
-returns c = (λ seen f ls. turn-stops _ f _ _ _ ls _ _ (c .refuse .ensures) (sym (c .before .if1 .taken) ∙ c .before .before .bad-element .ensures seen), λ seen h. counted-stops (c .refuse .result) _ _ seen (c .refuse .ensures))
+returns c = λ seen. turn-refused _ _ _ seen _ _ (c .refuse .ensures) (sym (c .before .if1 .taken) ∙ c .before .before .bad-element .ensures seen)
 
-word-at-requires : tie.Need-word-at-requires
-word-at-requires c κs = search needs
+element-at-requires : tie.Need-element-at-requires
+element-at-requires c κs = search needs
 
 add-mark : tie.Need-add-mark
-add-mark c = search needs
+add-mark c = omega (arith, c .before .before .before .before .before .before .before .pre .0 .stand .inside)
 
 put-element-requires : tie.Need-put-element-requires
-put-element-requires c κs = search needs
+put-element-requires c κs = omega (arith, c .before .element-at .ensures, c .before .before .before .before .before .before .before .before .pre .2, element-room (c .before .before .before .before .before .before .before .before .pre .0) (c .before .before .before .before .before .before .before .before .pre .1))
 
 same-length-2 : tie.Need-same-length-2
 same-length-2 c = search needs
 
 returns-2 : tie.Need-returns-2
-returns-2 c =
-    let pre = c .before .before .before .before .before .before .before .before .before .before .before .pre in
-    let bad-element = c .before .before .before .before .before .before .bad-element in
-    let if1 = c .before .before .before .before .before .if1 in
-    let word-at = c .before .before .before .before .word-at in
-    (λ seen f ls. element-goes _ f ls _ _ _ seen _ _ (word-at .ensures .0) _ (sym (if1 .left) ∙ bad-element .ensures seen) (omega (arith, word-at .ensures .0, pre .1)) (c .before .before .put-element .ensures), λ seen h. h)
+returns-2 c = λ seen. element-turned _ _ _ seen _ (c .before .before .before .before .before .before .before .before .before .before .before .pre .1) _ _ (sym (c .before .before .before .before .before .if1 .left) ∙ c .before .before .before .before .before .before .bad-element .ensures seen) (c .before .before .before .before .element-at .ensures) (omega (arith, c .before .before .before .before .element-at .ensures, c .before .before .before .before .before .before .before .before .before .before .before .pre .2, element-room (c .before .before .before .before .before .before .before .before .before .before .before .pre .0) (c .before .before .before .before .before .before .before .before .before .before .before .pre .1))) (c .before .before .put-element .ensures)
 
 pub take-element-spec : {M : Type 1} → statement M
-take-element-spec =
-    tie.close
-    (tie.spec
-    bad-element-requires
-    refuse-requires
-    same-length
-    returns
-    word-at-requires
-    add-mark
-    put-element-requires
-    same-length-2
-    returns-2)
+take-element-spec = tie.close (tie.spec add-q bad-element-requires refuse-requires same-length returns element-at-requires add-mark put-element-requires same-length-2 returns-2)

@@ -1,6 +1,7 @@
 -- `externals`: the heads are marked first, then the atoms that are none.
 use lib.ListN.{take}
-use Rattle.aspif.specs.Words.{linesOf}
+use Rattle.faults.specs.inner.Places.{atomPlaces}
+use Rattle.aspif.specs.inner.Words.{linesOf}
 use Rattle.terms.proofs.Marking.{marks-zeros, free-of-heads}
 use Rattle.terms.specs.Says.{headed}
 use borrow.Author.Needs.{needs}
@@ -11,7 +12,7 @@ slice-aggregate-mark-heads : tie.Need-slice-aggregate-mark-heads
 slice-aggregate-mark-heads c = search needs
 
 mark-heads-requires : tie.Need-mark-heads-requires
-mark-heads-requires c κs = (c .before .before .before .before .pre .0, marks-zeros 4097)
+mark-heads-requires c κs = (c .before .before .before .before .pre .0, marks-zeros atomPlaces)
 
 slice-aggregate-mark-free : tie.Need-slice-aggregate-mark-free
 slice-aggregate-mark-free c = search needs
@@ -27,7 +28,7 @@ returns c =
     let args = c .before .before .before .before .before .before .before .before .before .before .before .args in
     let mark-heads = c .before .before .before .before .before .before .mark-heads in
     let mark-free = c .before .before .mark-free in
-    free-of-heads 4097 (take (args .m) (args .atoms .now)) (mark-heads .last .1 .1 .0) (mark-free .last .1 .1 .1 .0) (headed (linesOf (args .tape .now) (args .n))) (mark-heads .ensures) (mark-free .ensures)
+    free-of-heads atomPlaces (take (args .m) (args .atoms .now)) (mark-heads .last .1 .1 .0) (mark-free .last .1 .1 .1 .0) (headed (linesOf (args .tape .now) (args .n))) (mark-heads .ensures) (mark-free .ensures)
 
 pub externals-spec : {M : Type 1} → statement M
 externals-spec =

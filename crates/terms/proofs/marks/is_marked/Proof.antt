@@ -1,7 +1,6 @@
 -- `is_marked`: its place is 1, and nothing is marked past the end.
 use mathlib.Core.Path.{refl}
 use Rattle.terms.proofs.Marking.{marked-out}
-use Rattle.terms.specs.Marks.{marked}
 use borrow.Author.Needs.{needs}
 use Rattle.terms.proofs.marks.is_marked.Statement.{statement}
 use Rattle.terms.proofs.marks.is_marked.Tie as tie
@@ -10,13 +9,12 @@ cast-i : tie.Need-cast-i
 cast-i c = search needs
 
 returns : tie.Need-returns
-returns c = marked-out _ _ (c .if1 .taken)
+returns c = marked-out (c .before .before .args .bits .now) _ (c .if1 .taken)
 
 shared-slice-read-result : tie.Need-shared-slice-read-result
 shared-slice-read-result c = search needs
 
 returns-2 : tie.Need-returns-2
-unfolding marked
 returns-2 c = refl
 
 pub is-marked-spec : {M : Type 1} → statement M

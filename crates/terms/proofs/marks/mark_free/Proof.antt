@@ -6,13 +6,15 @@ use lib.ListN.{length, take}
 use Rattle.terms.proofs.Marking.{free-skip, free-next}
 use native.Mathlib.Omega.{arith}
 use Rattle.basics.specs.Lists.{among}
-use Rattle.terms.specs.Marks.{marked, Marks}
+use Rattle.basics.specs.inner.Bitmaps.{isMarked}
+use Rattle.faults.specs.inner.Places.{atomPlaces}
+use Rattle.terms.specs.inner.Marks.{MarksThose}
 use borrow.Author.Needs.{needs}
 use Rattle.terms.proofs.marks.mark_free.Statement.{statement}
 use Rattle.terms.proofs.marks.mark_free.Tie as tie
 
 abbrev Inv-loop : tie.InvT-loop
-Inv-loop atoms m bits ext₀ i₀ ext i = Marks 4097 ext (λ a. among a (take i atoms) && not (marked bits a)) × (i ≤ m) × (length ext ≡ length ext₀)
+Inv-loop atoms m bits ext₀ i₀ ext i = MarksThose atomPlaces ext (λ a. among a (take i atoms) && not (isMarked bits a)) × (i ≤ m) × (length ext ≡ length ext₀)
 
 abbrev μ-loop : tie.MeasureT-loop
 μ-loop atoms m bits ext₀ i₀ ext i = m - i
@@ -41,7 +43,7 @@ loop-again c =
     let pre = c .before .before .before .before .before .before .before .before .pre in
     let loop = c .before .before .before .before .loop in
     let loop-test = c .before .before .before .loop-test in
-    (free-skip 4097 (args .atoms .now) (args .bits .now) (loop .ext) (loop .i) (omega (arith, loop-test .taken, pre .0)) (sym (c .if1 .taken) ∙ c .before .is-marked .ensures) (loop .inv .0), omega (arith, loop-test .taken), loop .inv .2)
+    (free-skip atomPlaces (args .atoms .now) (args .bits .now) (loop .ext) (loop .i) (omega (arith, loop-test .taken, pre .0)) (sym (c .if1 .taken) ∙ c .before .is-marked .ensures) (loop .inv .0), omega (arith, loop-test .taken), loop .inv .2)
 
 mark-atom-requires : tie.Need-mark-atom-requires Inv-loop μ-loop
 mark-atom-requires c κs = search needs
@@ -58,7 +60,7 @@ loop-again-2 c =
     let is-marked = c .before .before .before .before .before .is-marked in
     let if1 = c .before .before .before .before .if1 in
     let mark-atom = c .before .before .mark-atom in
-    (free-next 4097 (args .atoms .now) (args .bits .now) (loop .ext) (mark-atom .last .0) (loop .i) (omega (arith, loop-test .taken, pre .0)) (sym (if1 .left) ∙ is-marked .ensures) (mark-atom .ensures) (loop .inv .0), omega (arith, loop-test .taken), mark-atom .kept .0 ∙ loop .inv .2)
+    (free-next atomPlaces (args .atoms .now) (args .bits .now) (loop .ext) (mark-atom .last .0) (loop .i) (omega (arith, loop-test .taken, pre .0)) (sym (if1 .left) ∙ is-marked .ensures) (mark-atom .ensures) (loop .inv .0), omega (arith, loop-test .taken), mark-atom .kept .0 ∙ loop .inv .2)
 
 same-length : tie.Need-same-length Inv-loop μ-loop
 same-length c = c .before .loop .inv .2

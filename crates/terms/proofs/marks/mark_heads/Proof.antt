@@ -1,6 +1,6 @@
 -- `mark_heads`: the heads of the lines to come, and those marked, are all.
 use Rattle.terms.proofs.Marking.{Heading, heads-start, heads-next, heads-end}
-use Rattle.terms.proofs.Walks.{line-on}
+use Rattle.aspif.proofs.Walking.{ahead-starts, ahead-next}
 use borrow.Author.Needs.{needs}
 use Rattle.terms.proofs.marks.mark_heads.Statement.{statement}
 use Rattle.terms.proofs.marks.mark_heads.Tie as tie
@@ -15,10 +15,10 @@ loop-holds : tie.Need-loop-holds Inv-loop μ-loop
 loop-holds c = heads-start _ _ _ (c .before .before .pre .0) (c .before .before .pre .1)
 
 mark-line-requires : tie.Need-mark-line-requires Inv-loop μ-loop
-mark-line-requires c κs = let l = line-on _ _ _ (c .before .loop-test .taken) (c .before .before .loop .inv .ahead) in (l .starts, l .ends)
+mark-line-requires c κs = ahead-next _ _ _ (c .before .loop-test .taken) (c .before .before .loop .inv .ahead) .0
 
 after-at-requires : tie.Need-after-at-requires Inv-loop μ-loop
-after-at-requires c κs = line-on _ _ _ (c .before .before .before .before .loop-test .taken) (c .before .before .before .before .before .loop .inv .ahead) .starts
+after-at-requires c κs = ahead-starts _ _ _ (c .before .before .before .before .before .loop .inv .ahead)
 
 sub-left : tie.Need-sub-left Inv-loop μ-loop
 sub-left c = search needs

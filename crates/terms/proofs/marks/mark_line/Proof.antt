@@ -1,5 +1,6 @@
 -- `mark_line`: a rule has its head atoms marked, another line has none.
 use Rattle.terms.proofs.Marking.{line-none, line-heads}
+use native.Mathlib.Omega.{arith}
 use borrow.Author.Needs.{needs}
 use Rattle.terms.proofs.marks.mark_line.Statement.{statement}
 use Rattle.terms.proofs.marks.mark_line.Tie as tie
@@ -8,35 +9,22 @@ word-at-requires : tie.Need-word-at-requires
 word-at-requires c κs = search needs
 
 returns : tie.Need-returns
-returns c = λ a h. line-none _ _ _ _ (c .before .word-at .ensures .0) (c .if1 .taken) a
+returns c = λ a h. line-none _ _ _ (c .before .before .before .before .args .bits .now) (c .before .word-at .ensures .0) (c .if1 .taken) a
 
 word-at-requires-2 : tie.Need-word-at-requires-2
 word-at-requires-2 c κs = search needs
 
-word-at-requires-3 : tie.Need-word-at-requires-3
-word-at-requires-3 c κs = search needs
-
-head-count-requires : tie.Need-head-count-requires
-head-count-requires c κs = search needs
-
-add-q : tie.Need-add-q
-add-q c = search needs
+add-from : tie.Need-add-from
+add-from c = omega (arith, c .before .before .before .before .before .pre .stand .inside)
 
 mark-list-requires : tie.Need-mark-list-requires
-mark-list-requires c κs = search needs
+mark-list-requires c κs = omega (arith, c .before .before .before .before .before .before .pre .stand .inside)
 
 same-length : tie.Need-same-length
 same-length c = search needs
 
 returns-2 : tie.Need-returns-2
-returns-2 c =
-    let pre = c .before .before .before .before .before .before .before .before .before .before .before .pre in
-    let word-at = c .before .before .before .before .before .before .before .before .word-at in
-    let if1 = c .before .before .before .before .before .before .before .if1 in
-    let word-at2 = c .before .before .before .before .before .before .word-at2 in
-    let word-at3 = c .before .before .before .before .before .word-at3 in
-    let head-count = c .before .before .before .before .head-count in
-    line-heads _ _ _ _ _ _ _ _ (pre .1) (word-at .ensures .0) (if1 .left) (word-at2 .ensures .0) (word-at3 .ensures .0) (head-count .ensures) (c .before .before .mark-list .ensures)
+returns-2 c = line-heads _ _ _ _ (c .before .before .before .before .before .before .before .before .before .args .bits .now) (c .before .before .mark-list .last .1 .1 .1 .0) (c .before .before .before .before .before .before .before .before .before .pre) (c .before .before .before .before .before .before .word-at .ensures .0) (c .before .before .before .before .before .if1 .left) (c .before .before .before .before .word-at2 .ensures .0) (c .before .before .mark-list .ensures)
 
 pub mark-line-spec : {M : Type 1} → statement M
 mark-line-spec =
@@ -45,9 +33,7 @@ mark-line-spec =
     word-at-requires
     returns
     word-at-requires-2
-    word-at-requires-3
-    head-count-requires
-    add-q
+    add-from
     mark-list-requires
     same-length
     returns-2)

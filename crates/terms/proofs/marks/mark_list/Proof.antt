@@ -13,8 +13,8 @@ abbrev μ-loop : tie.MeasureT-loop
 loop-holds : tie.Need-loop-holds Inv-loop μ-loop
 loop-holds c = list-start _ _ _ _
 
-word-at-requires : tie.Need-word-at-requires Inv-loop μ-loop
-word-at-requires c κs = search needs
+atom-at-requires : tie.Need-atom-at-requires Inv-loop μ-loop
+atom-at-requires c κs = search needs
 
 mark-atom-requires : tie.Need-mark-atom-requires Inv-loop μ-loop
 mark-atom-requires c κs = search needs
@@ -29,7 +29,7 @@ loop-less : tie.Need-loop-less Inv-loop μ-loop
 loop-less c = search needs
 
 loop-again : tie.Need-loop-again Inv-loop μ-loop
-loop-again c = list-next _ _ (c .before .before .before .before .before .loop-test .taken) (c .before .before .before .before .word-at .ensures .0) (c .before .before .mark-atom .ensures) (c .before .before .before .before .before .before .loop .inv)
+loop-again c = list-next _ _ (c .before .before .before .before .before .loop-test .taken) (c .before .before .before .before .atom-at .ensures) (c .before .before .mark-atom .ensures) (c .before .before .before .before .before .before .loop .inv)
 
 same-length : tie.Need-same-length Inv-loop μ-loop
 same-length c = c .before .loop .inv .same
@@ -44,7 +44,7 @@ mark-list-spec =
     Inv-loop
     μ-loop
     loop-holds
-    word-at-requires
+    atom-at-requires
     mark-atom-requires
     add-q
     sub-left

@@ -4,15 +4,16 @@ use mathlib.Core.Path.{_≡_, refl, _∙_}
 use mathlib.Core.Bool.{_||_}
 use lib.ListN.{length, take}
 use Rattle.terms.proofs.Marking.{names-next}
-use Rattle.terms.specs.Marks.{Marks}
+use Rattle.terms.specs.inner.Marks.{MarksThose}
 use native.Mathlib.Omega.{arith}
 use Rattle.basics.specs.Lists.{among}
+use Rattle.faults.specs.inner.Places.{termPlaces}
 use borrow.Author.Needs.{needs}
 use Rattle.terms.proofs.marks.mark_names.Statement.{statement}
 use Rattle.terms.proofs.marks.mark_names.Tie as tie
 
 abbrev Inv-loop : tie.InvT-loop
-Inv-loop xs ys m names₀ i₀ names i = Marks 1024 names (λ n. among n (take i xs) || among n (take i ys)) × (i ≤ m) × (length names ≡ length names₀)
+Inv-loop xs ys m names₀ i₀ names i = MarksThose termPlaces names (λ n. among n (take i xs) || among n (take i ys)) × (i ≤ m) × (length names ≡ length names₀)
 
 abbrev μ-loop : tie.MeasureT-loop
 μ-loop xs ys m names₀ i₀ names i = m - i
@@ -52,7 +53,7 @@ loop-again c =
     let loop-test = c .before .before .before .before .before .before .before .before .before .before .loop-test in
     let mark-term = c .before .before .before .before .before .before .before .mark-term in
     let mark-term2 = c .before .before .mark-term2 in
-    (names-next 1024 (args .xs .now) (args .ys .now) (loop .i) (loop .names) (mark-term .last .0) (mark-term2 .last .0) (omega (arith, loop-test .taken, pre .0)) (omega (arith, loop-test .taken, pre .1)) (loop .inv .0) (mark-term .ensures) (mark-term2 .ensures), omega (arith, loop-test .taken), mark-term2 .kept .0 ∙ mark-term .kept .0 ∙ loop .inv .2)
+    (names-next termPlaces (args .xs .now) (args .ys .now) (loop .i) (loop .names) (mark-term .last .0) (mark-term2 .last .0) (omega (arith, loop-test .taken, pre .0)) (omega (arith, loop-test .taken, pre .1)) (loop .inv .0) (mark-term .ensures) (mark-term2 .ensures), omega (arith, loop-test .taken), mark-term2 .kept .0 ∙ mark-term .kept .0 ∙ loop .inv .2)
 
 same-length : tie.Need-same-length Inv-loop μ-loop
 same-length c = c .before .loop .inv .2

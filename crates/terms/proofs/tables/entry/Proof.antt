@@ -1,6 +1,6 @@
 -- `entry`: what is read, or 0 past the end, is what `word` says.
 use mathlib.Core.Path.{refl}
-use Rattle.aspif.specs.Words.{word}
+use Rattle.aspif.specs.inner.Words.{word}
 use Rattle.aspif.proofs.Walking.{word-out}
 use borrow.Author.Needs.{needs}
 use Rattle.terms.proofs.tables.entry.Statement.{statement}

@@ -1,0 +1,5 @@
+-- What only contracts between functions cite.
+pub mod Words
+pub mod Kept
+pub mod Bitmap
+pub mod Values

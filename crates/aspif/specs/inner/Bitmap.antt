@@ -1,0 +1,16 @@
+-- Inner: a candidate as a bitmap. Assumes nothing.
+use Prim.Native.Nat.{ℕ}
+use mathlib.Core.Path.{_≡_}
+use mathlib.Core.List.{List}
+use lib.ListN.{length, getD}
+use Rattle.basics.specs.inner.Bitmaps.{marks}
+use Rattle.faults.specs.inner.Places.{atomPlaces}
+
+-- the atoms that a bitmap holds, ascending
+abbrev pub atomsOf : List ℕ → List ℕ
+atomsOf x = marks 0 x
+
+-- a bitmap of the atoms 0 to 4,096 that holds none
+pub record Blank (x : List ℕ) : Type 0 where
+  pub places : length x ≡ atomPlaces
+  pub clear : (a : ℕ) → getD x a 0 ≡ 0

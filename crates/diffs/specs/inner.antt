@@ -1,0 +1,3 @@
+-- What only contracts between functions cite.
+pub mod Answer
+pub mod Steps

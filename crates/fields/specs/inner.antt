@@ -1,0 +1,5 @@
+-- What only contracts between functions cite.
+pub mod Tape
+pub mod Values
+pub mod Bounds
+pub mod Kept
