@@ -2,17 +2,22 @@
 use Prim.Native.Nat.{ℕ, suc, _+_, _*_, _/_, _%_, _≤_}
 use mathlib.Core.Path.{_≡_, refl, sym, ap, _∙_}
 use mathlib.Core.List.{List, [], _∷_, _++_, map, append-assoc}
-use mathlib.Core.Option.{some}
+use mathlib.Core.Option.{Option, some, none}
+use mathlib.Core.Bool.{Bool, true, false}
 use native.Mathlib.Omega.{arith}
 use native.Mathlib.Nat.{add-zero}
+use borrow.Author.Tests.{eqb-true, eqb-false, ne-eqb}
+use lib.Dec.{eqb}
 use lib.IntN.{ℤ, pos, negsuc}
 use lib.ListN.{length, getD, drop, length-append}
 use lib.Seq.{sets, sets-eq, length-sets, getD-drop, drop-drop, drop-append-seam}
+use Rattle.basics.specs.Bools.{pick}
+use Rattle.basics.proofs.Bools.{picked}
 use Rattle.fields.specs.inner.Tape.{listed}
 use Rattle.aspif.specs.Statements.{Literal, positive, negated, Head, headAtoms, Body, normal, num, str, comp, elem, unguarded, guard, defines, collects, states, Theory, Statement, rule, output, theory, comment, Line, Rule, ruleIn, theoryIn}
 use Rattle.aspif.specs.Grammar.{literalOf, integerOf}
-use Rattle.aspif.specs.inner.Words.{ruleKind, outputKind, commentKind, numberKind, stringKind, compoundKind, elementKind, atomKind, guardedKind, literalWord, integerWord, literalWords, theoryWords, wordsOf, words, allWords, word, wordsFrom, listAt, behind, saysAt, after, linesFrom, linesOf}
-use Rattle.aspif.specs.inner.Kept.{AllSmall, Ahead}
+use Rattle.aspif.specs.inner.Words.{ruleKind, outputKind, commentKind, numberKind, stringKind, compoundKind, elementKind, atomKind, guardedKind, literalWord, integerWord, literalWords, wordsOf, words, allWords, word, wordsFrom, listAt, behind, literalsAt, saysAt, after, linesFrom, linesOf}
+use Rattle.aspif.specs.inner.Kept.{TheoryWith, SmallWith, AllSmall, Ahead}
 use Rattle.aspif.proofs.Coding.{kindOf, head-words, head-back}
 
 -- ---- a word says what it was written for
@@ -239,3 +244,75 @@ theory-is (rule h b) x e = let z : _≡_ {A = ℕ} 0 1 = (cc) in absurd (omega a
 theory-is (output bs c) x e = let z : _≡_ {A = ℕ} 0 1 = (cc) in absurd (omega arith)
 theory-is (theory y) x e = let z : y ≡ x = (cc) in ap theory z
 theory-is (comment bs) x e = let z : _≡_ {A = ℕ} 0 1 = (cc) in absurd (omega arith)
+
+-- the bounds of a theory statement, and of none
+abbrev pub TheoryIf : (ℕ → Type 0) → Option Theory → Type 0
+TheoryIf B (some x) = TheoryWith B x
+TheoryIf B none = Unit {0}
+
+pub theory-small : (B : ℕ → Type 0) (s : Statement) → SmallWith B s → TheoryIf B (theoryIn s)
+theory-small B (rule h b) k = tt
+theory-small B (output bs c) k = tt
+theory-small B (theory x) k = k
+theory-small B (comment bs) k = tt
+
+-- ---- what stands at a place of the tape, by its kind
+
+-- a kind of no theory statement
+abbrev pub Plain : (kind : ℕ) → Type 0
+Plain k = (k ≡ numberKind → ⊥) × (k ≡ stringKind → ⊥) × (k ≡ compoundKind → ⊥) × (k ≡ elementKind → ⊥) × (k ≡ atomKind → ⊥) × (k ≡ guardedKind → ⊥)
+
+-- by a test
+either : (P : Option Theory → Type 0) (k n : ℕ) (x y : Statement) → (k ≡ n → P (theoryIn x)) → ((k ≡ n → ⊥) → P (theoryIn y)) → P (theoryIn (pick (eqb k n) x y))
+either P k n x y f g = go (eqb k n) refl
+  where
+    go : (b : Bool) → eqb k n ≡ b → P (theoryIn (pick b x y))
+    go true e = f (eqb-true k n e)
+    go false e = g (eqb-false k n e)
+
+module _ (t : List ℕ) (q : ℕ) where
+  abbrev kind : ℕ
+  kind = word t q
+
+  -- only kind 1 is that of a rule
+  pub not-rule : (kind ≡ ruleKind → ⊥) → ruleIn (saysAt t q) ≡ none
+  unfolding saysAt
+  not-rule n =
+      rw (ne-eqb kind ruleKind n)
+      (other outputKind _ _ refl
+      (other numberKind _ _ refl
+      (other stringKind _ _ refl
+      (other compoundKind _ _ refl
+      (other elementKind _ _ refl
+      (other atomKind _ _ refl
+      (other guardedKind _ _ refl refl)))))))
+    where
+      other : (k : ℕ) (x y : Statement) → ruleIn x ≡ none → ruleIn y ≡ none → ruleIn (pick (eqb kind k) x y) ≡ none
+      other k = picked (λ s. ruleIn s ≡ none) (eqb kind k)
+
+  plain-as : (k : ℕ) → kind ≡ k
+      → (eqb k numberKind ≡ false) × (eqb k stringKind ≡ false) × (eqb k compoundKind ≡ false) × (eqb k elementKind ≡ false) × (eqb k atomKind ≡ false) × (eqb k guardedKind ≡ false)
+      → Plain kind
+  plain-as k e n = rw e (eqb-false k _ (n .0), eqb-false k _ (n .1), eqb-false k _ (n .2), eqb-false k _ (n .3), eqb-false k _ (n .4), eqb-false k _ (n .5))
+
+  -- what holds of the theory statement of each kind, and of none, holds of what stands there
+  pub theory-by : (P : Option Theory → Type 0)
+      → (kind ≡ numberKind → P (some (defines (word t (q + 1)) (num (integerOf (word t (q + 2)))))))
+      → (kind ≡ stringKind → P (some (defines (word t (q + 1)) (str (listAt t (q + 2))))))
+      → (kind ≡ compoundKind → P (some (defines (word t (q + 1)) (comp (integerOf (word t (q + 2))) (listAt t (q + 3))))))
+      → (kind ≡ elementKind → P (some (collects (word t (q + 1)) (elem (listAt t (q + 2)) (literalsAt t (behind t (q + 2)))))))
+      → (kind ≡ atomKind → P (some (states (word t (q + 1)) (word t (q + 2)) (listAt t (q + 3)) unguarded)))
+      → (kind ≡ guardedKind → P (some (states (word t (q + 1)) (word t (q + 2)) (listAt t (q + 3)) (guard (word t (behind t (q + 3))) (word t (behind t (q + 3) + 1))))))
+      → (Plain kind → P none)
+      → P (theoryIn (saysAt t q))
+  unfolding saysAt
+  theory-by P n s c e a g o =
+      either P kind ruleKind _ _ (λ h. o (plain-as ruleKind h (refl, refl, refl, refl, refl, refl)))
+      (λ _. either P kind outputKind _ _ (λ h. o (plain-as outputKind h (refl, refl, refl, refl, refl, refl)))
+      (λ _. either P kind numberKind _ _ n
+      (λ hn. either P kind stringKind _ _ s
+      (λ hs. either P kind compoundKind _ _ c
+      (λ hc. either P kind elementKind _ _ e
+      (λ he. either P kind atomKind _ _ a
+      (λ ha. either P kind guardedKind _ _ g
+      (λ hg. o (hn, hs, hc, he, ha, hg)))))))))

@@ -14,10 +14,10 @@ use Rattle.basics.specs.Lists.{All, Ascending}
 use Rattle.basics.proofs.Lists.{all-so}
 use Rattle.faults.specs.Answer.{got, refused}
 use Rattle.faults.specs.Limits.{lastTerm, mostCount, largestNumber}
-use Rattle.fields.specs.Reading.{Reading, found, fault, andThen}
+use Rattle.fields.specs.Reading.{Reading, found}
 use Rattle.fields.specs.Fields.{space, byteAt, allPositive, natural, counted}
 use Rattle.fields.specs.inner.Kept.{IsAtom, Fits, ByteOf}
-use Rattle.fields.proofs.Readers.{ByReading, Reads, finds, stops, Any, by-grammar, by-carried, by-bounds, reads-found, reads-fault, reads-pick, reads-either, reads-so, reads-then, byte-reads, bytes-reads, lineEnd-reads, textEnd-reads, natural-reads, nextNatural-reads, nextInteger-reads, nextAtom-reads, nextTerm-reads, nextElement-reads, counted-reads, string-reads, rest-reads}
+use Rattle.fields.proofs.Readers.{ByReading, Reads, finds, stops, Any, by-grammar, by-carried, by-bounds, reads-found, reads-pick, reads-either, reads-so, reads-then, byte-reads, bytes-reads, lineEnd-reads, textEnd-reads, natural-reads, nextNatural-reads, nextInteger-reads, nextAtom-reads, nextTerm-reads, nextElement-reads, counted-reads, string-reads, rest-reads}
 use Rattle.aspif.specs.Statements.{positive, negated, choice, num, str, comp, defines, collects, states, Statement, rule, output, theory, comment, Line, atomOf}
 use Rattle.aspif.specs.Grammar.{literalOf, integerOf, plainHead, headOf, heads, bodyKind, literals, body, ruleLine, outputLine, numericLine, stringLine, compoundLine, elementLine, Front, front, theoryLine, guardedLine, commentLine, theoryOf, theoryPart, statementOf, lineOf, lastLine, lines, noTag, firstLine, plan, answer, statements}
 use Rattle.aspif.specs.inner.Kept.{IsTerm, IsElement, IsByte, FromTo, Counted, SmallLiterals, SmallHead, SmallBody, SmallWith, AllSmallWith, AllSmall, AllInRange}

@@ -4,6 +4,7 @@ ghost use Prim.Native.Nat.{_≤_};
 ghost use lib.ListN.{length};
 ghost use Rattle.faults.specs.Answer.{mapped};
 ghost use Rattle.faults.specs.Values.{asStep};
+ghost use Rattle.fields.specs.inner.Bounds.{longestRead};
 ghost use Rattle.aspif.specs.Grammar.{statements};
 ghost use Rattle.aspif.specs.inner.Words.{linesOf};
 ghost use Rattle.aspif.specs.inner.Values.{asTape, taped, tapedIf};
@@ -23,7 +24,7 @@ pub mod walk;
 
 // What the text says, on the tape from its start on, and how many lines that is; or 3, 4 or 5.
 pub fn read(s: &[u8], tape: &mut [u32]) -> Step
-    requires { ⌜ (length (now s) ≤ length (now tape)) × (length (now s) ≤ 65536) ⌝ }
+    requires { ⌜ (length (now s) ≤ length (now tape)) × (length (now s) ≤ longestRead) ⌝ }
     ensures { λ r. ⌜ asTape r (now (tape .exit)) ≡ taped (now (tape .entry)) (statements (now (s .entry))) ⌝ }
     ensures { λ r. ⌜ mapped (linesOf (now (tape .exit))) (asStep r) ≡ statements (now (s .entry)) ⌝ }
     ensures { λ r. ⌜ tapedIf r (now (tape .exit)) ⌝ }

@@ -4,6 +4,7 @@ ghost use Prim.Native.Nat.{_+_, _≤_, _<_};
 ghost use lib.ListN.{length};
 ghost use Rattle.faults.specs.Answer.{mapped};
 ghost use Rattle.faults.specs.Values.{asStep};
+ghost use Rattle.fields.specs.inner.Bounds.{longestRead};
 ghost use Rattle.fields.specs.inner.Tape.{onTape};
 ghost use Rattle.fields.specs.inner.Values.{asPassed, asWrote, roomy};
 ghost use Rattle.aspif.specs.Grammar.{answer, firstLine, lastLine, statementOf, lines};
@@ -54,7 +55,7 @@ pub fn last_line(c: Cursor, s: &[u8]) -> Passed
 
 // A statement of the type k, onto the tape from `out` on.
 fn statement_of(c: Cursor, s: &[u8], k: u32, place: usize, tape: &mut [u32], out: usize) -> Wrote
-    requires { ⌜ (out ≤ c .at) × (length (now s) ≤ length (now tape)) × (length (now s) ≤ 65536) × (k ≡ 10 → out < c .at) ⌝ }
+    requires { ⌜ (out ≤ c .at) × (length (now s) ≤ length (now tape)) × (length (now s) ≤ longestRead) × (k ≡ 10 → out < c .at) ⌝ }
     ensures { λ r. ⌜ asWrote r (now (tape .exit)) ≡ onTape wordsOf (now (tape .entry)) out (statementOf k place (now (s .entry)) (c .at)) ⌝ }
     ensures { λ r. ⌜ roomy r ⌝ }
 {
@@ -78,7 +79,7 @@ fn statement_of(c: Cursor, s: &[u8], k: u32, place: usize, tape: &mut [u32], out
 
 // At most n lines, of which the line `0` is the last, on the tape from its start on; and how many they are.
 pub fn lines(c: Cursor, s: &[u8], n: usize, tape: &mut [u32]) -> Step
-    requires { ⌜ (0 < c .at) × (length (now s) ≤ length (now tape)) × (length (now s) ≤ 65536) ⌝ }
+    requires { ⌜ (0 < c .at) × (length (now s) ≤ length (now tape)) × (length (now s) ≤ longestRead) ⌝ }
     ensures { λ r. ⌜ asTape r (now (tape .exit)) ≡ taped (now (tape .entry)) (answer (lines n (now (s .entry)) (c .at))) ⌝ }
     ensures { λ r. ⌜ mapped (linesOf (now (tape .exit))) (asStep r) ≡ answer (lines n (now (s .entry)) (c .at)) ⌝ }
     ensures { λ r. ⌜ tapedIf r (now (tape .exit)) ⌝ }

@@ -2,6 +2,7 @@
 ghost use mathlib.Core.Path.{_≡_};
 ghost use Prim.Native.Nat.{_+_, _≤_, _<_};
 ghost use lib.ListN.{length};
+ghost use Rattle.fields.specs.inner.Bounds.{longestRead};
 ghost use Rattle.fields.specs.inner.Tape.{onTape, listed};
 ghost use Rattle.fields.specs.inner.Values.{asPassed, asWrote, roomy};
 ghost use Rattle.aspif.specs.Grammar.{heads, bodyKind, literals, body, ruleLine, outputLine, commentLine};
@@ -112,7 +113,7 @@ pub fn output_line(c: Cursor, s: &[u8], tape: &mut [u32], out: usize) -> Wrote
 
 // A comment: a space, and anything up to the line end.
 pub fn comment_line(c: Cursor, s: &[u8], tape: &mut [u32], out: usize) -> Wrote
-    requires { ⌜ (out < c .at) × (length (now s) ≤ length (now tape)) × (length (now s) ≤ 65536) ⌝ }
+    requires { ⌜ (out < c .at) × (length (now s) ≤ length (now tape)) × (length (now s) ≤ longestRead) ⌝ }
     ensures { λ r. ⌜ asWrote r (now (tape .exit)) ≡ onTape wordsOf (now (tape .entry)) out (commentLine (now (s .entry)) (c .at)) ⌝ }
     ensures { λ r. ⌜ roomy r ⌝ }
 {

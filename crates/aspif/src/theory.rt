@@ -1,6 +1,6 @@
 // Theory statements: the rest of a line whose type has been read, onto the tape from `out` on.
 ghost use mathlib.Core.Path.{_≡_};
-ghost use Prim.Native.Nat.{_+_, _≤_, _<_};
+ghost use Prim.Native.Nat.{_+_, _≤_};
 ghost use lib.ListN.{length};
 ghost use Rattle.fields.specs.inner.Tape.{onTape};
 ghost use Rattle.fields.specs.inner.Values.{asWrote, roomy};

@@ -82,14 +82,6 @@ module _ {A : Type 0} {P : A → Type 0} {s : List ℕ} {at : ℕ} where
       (rw y h, omega arith, omega (arith, w (omega arith)))
   reads-ends i (stops b w) v n e = let z : _≡_ {A = ℕ} 0 1 = (cc) in absurd (omega arith)
 
-  -- reading that begins within the text stops within it
-  pub reads-stops : {d : ℕ} {a : Reading A} → Reads P s at d a → at ≤ length s → (k p : ℕ) → fault k p ≡ a → ByReading k × (p ≤ length s)
-  reads-stops (finds h l w) i k p e = let z : _≡_ {A = ℕ} 0 1 = (cc) in absurd (omega arith)
-  reads-stops (stops {k = j} {p = q} b w) i k p e =
-      let y : k ≡ j = (cc) in
-      let z : p ≡ q = (cc) in
-      ((omega arith, omega arith), omega (arith, w i))
-
 -- what follows from what is read, and from reading that far
 pub reads-so : {A : Type 0} {P Q : A → Type 0} {s : List ℕ} {at d e : ℕ} {a : Reading A} → ((v : A) → P v → Q v) → e ≤ d → Reads P s at d a → Reads Q s at e a
 reads-so f l (finds {v} {n} h i w) = finds {n = n} (f v h) (omega arith) w

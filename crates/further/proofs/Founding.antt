@@ -7,7 +7,7 @@ use mathlib.Core.List.{List}
 use borrow.Author.Tests.{eqb-true, eq-eqb}
 use Rattle.basics.specs.Lists.{among}
 use Rattle.basics.proofs.Bools.{or-left, or-right, or-else}
-use Rattle.aspif.specs.Statements.{Head, Body, Statement, rule, statementAtoms, Rule}
+use Rattle.aspif.specs.Statements.{Head, Body, Statement, rule, statementAtoms}
 use Rattle.terms.specs.Terms.{external}
 use Rattle.stable.specs.Meaning.{Atoms, HasRule, Obeyed, Closed, Unfounded, Founded, SmallestUnfounded}
 use Rattle.judge.specs.Plan.{Ready, holds}

@@ -18,7 +18,7 @@ use Rattle.diffs.proofs.Integers.{up-le, neg-up}
 use Rattle.diffs.proofs.Latest.{latest-time}
 use Rattle.timetable.specs.inner.Given.{timeAt}
 use Rattle.timetable.proofs.Marks.{marked-none, marked-pass, marked-take}
-use Rattle.judge.specs.Judged.{inTime}
+use Rattle.judge.specs.Judged.{largestTime, inTime}
 use Rattle.judge.specs.inner.Stages.{Labelled, Candidate, Writable}
 
 module _ (names times : List ℕ) (i : ℕ) where
@@ -27,12 +27,12 @@ module _ (names times : List ℕ) (i : ℕ) where
   late-pass h n = rw (marked-pass names i h n)
 
   -- i is a name, and in time
-  pub late-time : i < length names → getD names i 0 ≡ 1 → getD times i 0 ≤ 2147483647 → inTime (markedFrom (i + 1) names) (timeAt times) ≡ inTime (markedFrom i names) (timeAt times)
+  pub late-time : i < length names → getD names i 0 ≡ 1 → getD times i 0 ≤ largestTime → inTime (markedFrom (i + 1) names) (timeAt times) ≡ inTime (markedFrom i names) (timeAt times)
   unfolding inTime
   late-time h n l = rw (← marked-take names i h n, le-ltb _ _ l)
 
   -- i is a name, and late
-  pub late-found : i < length names → getD names i 0 ≡ 1 → 2147483647 < getD times i 0 → refused 11 i ≡ inTime (markedFrom i names) (timeAt times)
+  pub late-found : i < length names → getD names i 0 ≡ 1 → largestTime < getD times i 0 → refused 11 i ≡ inTime (markedFrom i names) (timeAt times)
   unfolding inTime
   late-found h n l = rw (← marked-take names i h n, lt-ltb _ _ l)
 

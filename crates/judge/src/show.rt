@@ -2,7 +2,7 @@
 ghost use mathlib.Core.Path.{_≡_};
 ghost use lib.Dec.{eqb};
 ghost use Rattle.faults.specs.Values.{number};
-ghost use Rattle.judge.specs.Shown.{partFrom, inText, Part, IsShown};
+ghost use Rattle.judge.specs.Shown.{inText, Part, IsShown};
 use faults::Kind;
 use faults::Refusal;
 use fields::FEED;

@@ -21,7 +21,7 @@ use faults::TERM_PLACES;
 use terms::marks::mark_names;
 
 // The latest time that may be written.
-const LATEST: u64 = 2147483647;
+const LARGEST_TIME: u64 = 2147483647;
 
 // How many of the first m differences have an atom in x: these are moved into the first places.
 fn gather(
@@ -69,7 +69,7 @@ fn late(names: &[u8], times: &[u64]) -> Step
         if names[here] != 1 {
             continue;
         }
-        if times[here] <= LATEST {
+        if times[here] <= LARGEST_TIME {
             continue;
         }
         return Step::Refused(Refusal {

@@ -14,11 +14,12 @@ use Rattle.aspif.specs.Grammar.{plainHead}
 use Rattle.aspif.specs.inner.Words.{ruleKind, word, listAt, literalsAt, after, saysAt, linesFrom}
 use Rattle.aspif.specs.inner.Kept.{LineOn, Ahead}
 use Rattle.aspif.proofs.Walking.{ahead-next, lines-next}
+use Rattle.aspif.proofs.Decoding.{not-rule}
 use Rattle.stable.specs.Meaning.{Atoms, bodyTrue, brokenRule, broken, unbroken, brokenAt, firstBroken}
 use Rattle.stable.specs.inner.Index.{ruleAt, RuleOn}
 use Rattle.stable.specs.inner.Steps.{allHold}
 use Rattle.stable.proofs.Heads.{no-head, one-head, choice-head, plain-head, atom, plain-small, body-holds}
-use Rattle.stable.proofs.Lines.{rule-in, none-in, rule-on}
+use Rattle.stable.proofs.Lines.{rule-in, rule-on}
 use Rattle.stable.proofs.Reduct.{holds-self}
 
 -- ---- a rule
@@ -82,7 +83,7 @@ module _ {X : Atoms} {t : List ℕ} {n p left : ℕ} (k : Passed X t n p left) w
 
     module _ {w : ℕ} (e : w ≡ word t (p + 2)) where
       pub pass-other : {s : ℕ} → (w ≡ ruleKind → ⊥) → s ≡ after t p → Passed X t n s (left - 1)
-      pass-other o f = pass (rw (none-in t (p + 2) (λ i. o (e ∙ i)))) f
+      pass-other o f = pass (rw (not-rule t (p + 2) (λ i. o (e ∙ i)))) f
 
       module _ (i : w ≡ ruleKind) where
         pub rule-here : RuleOn t (p + 2)

@@ -1,39 +1,20 @@
 -- Lines on the tape: when one is a rule, that a rule can be read, and the first of the words of a list. Assumes nothing.
 use Prim.Native.Nat.{ℕ, zero, suc, _+_, _-_, _≤_}
-use mathlib.Core.Bool.{Bool}
 use mathlib.Core.List.{List, _∷_}
-use mathlib.Core.Option.{some, none}
+use mathlib.Core.Option.{some}
 use mathlib.Core.Path.{_≡_, refl}
 use native.Mathlib.Omega.{arith}
-use borrow.Author.Tests.{ne-eqb}
-use lib.Dec.{eqb}
 use lib.ListN.{length, getD, length-append}
-use Rattle.basics.proofs.Bools.{picked}
-use Rattle.aspif.specs.Statements.{Head, empty, single, choice, Statement, ruleIn}
-use Rattle.aspif.specs.inner.Words.{ruleKind, outputKind, numberKind, stringKind, compoundKind, elementKind, atomKind, guardedKind, headWords, bodyWords, wordsOf, word, wordsFrom, saysAt, after}
+use Rattle.aspif.specs.Statements.{Head, empty, single, choice, ruleIn}
+use Rattle.aspif.specs.inner.Words.{ruleKind, headWords, bodyWords, wordsOf, word, wordsFrom, saysAt, after}
 use Rattle.aspif.specs.inner.Kept.{LineOn}
 use Rattle.aspif.proofs.Walking.{rule-says, rule-inside}
 use Rattle.stable.specs.inner.Index.{ruleAt, RuleOn}
 
 module _ (t : List ℕ) (q : ℕ) where
-  abbrev is : ℕ → Bool
-  is k = eqb (word t q) k
-
   -- kind 1 is that of a rule
   pub rule-in : word t q ≡ ruleKind → ruleIn (saysAt t q) ≡ some (ruleAt t q)
   rule-in e = rw (rule-says t q e)
-
-  -- and no other is
-  pub none-in : (word t q ≡ ruleKind → ⊥) → ruleIn (saysAt t q) ≡ none
-  unfolding saysAt
-  none-in n =
-      rw (ne-eqb (word t q) ruleKind n)
-      (picked no (is outputKind) _ _ refl (picked no (is numberKind) _ _ refl (picked no (is stringKind) _ _ refl
-      (picked no (is compoundKind) _ _ refl (picked no (is elementKind) _ _ refl (picked no (is atomKind) _ _ refl
-      (picked no (is guardedKind) _ _ refl refl)))))))
-    where
-      no : Statement → Type 0
-      no s = ruleIn s ≡ none
 
 -- the rule of a line can be read
 pub rule-on : {t : List ℕ} {p : ℕ} → LineOn t p → word t (p + 2) ≡ ruleKind → RuleOn t (p + 2)

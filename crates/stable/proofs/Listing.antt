@@ -13,9 +13,10 @@ use Rattle.aspif.specs.Statements.{Rule, ruleIn}
 use Rattle.aspif.specs.inner.Words.{ruleKind, word, after, saysAt, linesFrom, linesOf}
 use Rattle.aspif.specs.inner.Kept.{LineOn, Ahead}
 use Rattle.aspif.proofs.Walking.{ahead-starts, ahead-next, lines-next, after-inside}
+use Rattle.aspif.proofs.Decoding.{not-rule}
 use Rattle.stable.specs.Meaning.{HasRule}
 use Rattle.stable.specs.inner.Index.{ruleAt, RuleOn, indexPlaces, InIndex, Indexed}
-use Rattle.stable.proofs.Lines.{rule-in, none-in, rule-on, rule-long}
+use Rattle.stable.proofs.Lines.{rule-in, rule-on, rule-long}
 
 -- a rule of the lines stands at q
 pub record Stands (t : List ℕ) (n q : ℕ) : Type 0 where
@@ -78,7 +79,7 @@ module _ {t : List ℕ} {n : ℕ} {index : List ℕ} {m p left : ℕ} (k : Listi
       }
         where
           other : (r : Rule) → ruleIn (saysAt t (p + 2)) ≡ some r → ⊥
-          other r f = let v = none-in t (p + 2) (λ i. o (e ∙ i)) in let c : _≡_ {A = ℕ} 0 1 = cc in omega arith
+          other r f = let v = not-rule t (p + 2) (λ i. o (e ∙ i)) in let c : _≡_ {A = ℕ} 0 1 = cc in omega arith
 
       module _ (i : w ≡ ruleKind) where
         pub room : m < indexPlaces

@@ -18,10 +18,11 @@ use Rattle.aspif.specs.Statements.{Term, num, Theory, defines, collects, states
 use Rattle.aspif.specs.inner.Kept.{FromTo, TermWith, AllInRange}
 use Rattle.diffs.specs.Diff.{Diff}
 use Rattle.diffs.proofs.Names.{pigeon}
+use Rattle.aspif.proofs.Decoding.{TheoryIf, theory-small}
 use Rattle.terms.specs.Says.{orElse, termIn, term, Bound, plain, negated, Difference, SaysIn, Says}
 use Rattle.terms.specs.Terms.{Stated, differences, Lists}
 use Rattle.terms.specs.inner.Tables.{SmallDiff}
-use Rattle.terms.proofs.ByKind.{Any, SmallIf, small-theory}
+use Rattle.terms.proofs.ByKind.{Any}
 use Rattle.terms.proofs.Differing.{never}
 use Rattle.terms.proofs.Stating.{listed-says, atoms-differ}
 
@@ -30,7 +31,7 @@ use Rattle.terms.proofs.Stating.{listed-says, atoms-differ}
 small-found : {x y : Term} → some x ≡ some y → TermWith Any x → TermWith Any y
 small-found {x} {y} e q = let h : x ≡ y = cc e in rw (← h) q
 
-small-in : (s : Option Theory) (u : ℕ) (r : Option Term) (x : Term) → SmallIf Any s → (r ≡ some x → TermWith Any x) → orElse (termIn u s) r ≡ some x → TermWith Any x
+small-in : (s : Option Theory) (u : ℕ) (r : Option Term) (x : Term) → TheoryIf Any s → (r ≡ some x → TermWith Any x) → orElse (termIn u s) r ≡ some x → TermWith Any x
 small-in (some (defines v y)) u r x q k = go (eqb u v)
   where
     go : (b : Bool) → orElse (pick b (some y) none) r ≡ some x → TermWith Any x
@@ -43,7 +44,7 @@ small-in none u r x q k = k
 small-term : (ls : List Line) (u : ℕ) (x : Term) → AllInRange ls → term ls u ≡ some x → TermWith Any x
 unfolding term
 small-term [] u x q e = absurd (never e)
-small-term (l ∷ ls) u x q e = small-in (theoryIn (l .says)) u (term ls u) x (small-theory Any (l .says) (q .0)) (small-term ls u x (q .1)) e
+small-term (l ∷ ls) u x q e = small-in (theoryIn (l .says)) u (term ls u) x (theory-small Any (l .says) (q .0)) (small-term ls u x (q .1)) e
 
 -- ---- differences
 
@@ -62,7 +63,7 @@ small-difference ls p vs g u d q h =
     let s = small-term ls (h .w) _ q (h .pair) .1 .0 in
     record { x-small = omega (arith, s .0); y-small = omega (arith, s .1 .0); k-small = small-bound ls u (d .k) q (h .bound) }
 
-small-said : (ls : List Line) (a : ℕ) (d : Diff) (s : Option Theory) → AllInRange ls → SmallIf Any s → SaysIn ls a d s → SmallDiff d × (a < atomPlaces)
+small-said : (ls : List Line) (a : ℕ) (d : Diff) (s : Option Theory) → AllInRange ls → TheoryIf Any s → SaysIn ls a d s → SmallDiff d × (a < atomPlaces)
 small-said ls a d (some (defines u t)) q k h = absurd h
 small-said ls a d (some (collects v e)) q k h = absurd h
 small-said ls a d (some (states b p vs unguarded)) q k h = absurd h
@@ -72,7 +73,7 @@ small-said ls a d none q k h = absurd h
 small-some : (whole ls : List Line) (a : ℕ) (d : Diff) → AllInRange whole → AllInRange ls → Some (λ (l : Line). SaysIn whole a d (theoryIn (l .says))) ls → SmallDiff d × (a < atomPlaces)
 small-some whole [] a d q k h = absurd h
 small-some whole (l ∷ ls) a d q k h =
-    ⊎-elim (λ w. small-said whole a d (theoryIn (l .says)) q (small-theory Any (l .says) (k .0)) w) (λ w. small-some whole ls a d q (k .1) w) h
+    ⊎-elim (λ w. small-said whole a d (theoryIn (l .says)) q (theory-small Any (l .says) (k .0)) w) (λ w. small-some whole ls a d q (k .1) w) h
 
 -- what an atom says is within the bounds
 pub says-small : (ls : List Line) (a : ℕ) (d : Diff) → AllInRange ls → Says ls a d → SmallDiff d × (a < atomPlaces)

@@ -2,28 +2,18 @@
 use Prim.Native.Nat.{ℕ, _+_, _<_}
 use mathlib.Core.Path.{_≡_, refl, sym, ap, _∙_}
 use mathlib.Core.List.{List}
-use mathlib.Core.Bool.{Bool, true, false}
 use mathlib.Core.Option.{Option, some, none}
 use native.Mathlib.Omega.{arith}
-use borrow.Author.Tests.{eqb-true, eqb-false, ne-eqb}
-use lib.Dec.{eqb}
-use Rattle.basics.specs.Bools.{pick}
+use borrow.Author.Tests.{ne-eqb}
 use Rattle.faults.specs.inner.Places.{termPlaces, elementPlaces, atomPlaces}
-use Rattle.aspif.specs.Statements.{Literal, Term, num, str, comp, elem, Guard, unguarded, guard, Theory, defines, collects, states, Statement, rule, output, theory, comment, theoryIn}
+use Rattle.aspif.specs.Statements.{Literal, Term, num, str, comp, elem, Guard, unguarded, guard, Theory, defines, collects, states, theoryIn}
 use Rattle.aspif.specs.Grammar.{integerOf}
-use Rattle.aspif.specs.inner.Words.{ruleKind, outputKind, numberKind, stringKind, compoundKind, elementKind, atomKind, guardedKind, word, wordsFrom, literalsAt, saysAt}
-use Rattle.aspif.specs.inner.Kept.{IsByte, TheoryWith, SmallWith, LineOn}
+use Rattle.aspif.specs.inner.Words.{numberKind, stringKind, compoundKind, elementKind, atomKind, guardedKind, word, wordsFrom, literalsAt, saysAt}
+use Rattle.aspif.specs.inner.Kept.{IsByte, LineOn}
+use Rattle.aspif.proofs.Decoding.{TheoryIf, theory-small, theory-by}
 use Rattle.terms.specs.inner.Tables.{roleOf}
 use Rattle.terms.specs.declared.lines.Role.{Role}
 use Rattle.terms.specs.declared.lines.Role.the-variants as role
-
--- by a test
-either : (P : Option Theory → Type 0) (k n : ℕ) (x y : Statement) → (k ≡ n → P (theoryIn x)) → ((k ≡ n → ⊥) → P (theoryIn y)) → P (theoryIn (pick (eqb k n) x y))
-either P k n x y f g = go (eqb k n) refl
-  where
-    go : (b : Bool) → eqb k n ≡ b → P (theoryIn (pick b x y))
-    go true e = f (eqb-true k n e)
-    go false e = g (eqb-false k n e)
 
 module _ (t : List ℕ) (q : ℕ) where
   -- ---- what the statement at q says
@@ -57,21 +47,12 @@ module _ (t : List ℕ) (q : ℕ) where
       → (word t q ≡ atomKind → P (atom unguarded)) → (word t q ≡ guardedKind → P (atom (guard (word t behind3) (word t (behind3 + 1)))))
       → (roleOf (word t q) ≡ role.Other → P none)
       → P (theoryIn (saysAt t q))
-  unfolding saysAt roleOf
+  unfolding roleOf
   by-kind P n s c e a g o =
       let x : q + 2 + 1 ≡ q + 3 = omega arith in
       let y : q + 3 + 1 ≡ q + 4 = omega arith in
-      let k = word t q in
-      rw (x, y)
-      (either P k ruleKind _ _ (λ h. o (rw h))
-      (λ _. either P k outputKind _ _ (λ h. o (rw h))
-      (λ _. either P k numberKind _ _ n
-      (λ hn. either P k stringKind _ _ s
-      (λ hs. either P k compoundKind _ _ c
-      (λ hc. either P k elementKind _ _ e
-      (λ he. either P k atomKind _ _ a
-      (λ ha. either P k guardedKind _ _ g
-      (λ hg. o (rw (ne-eqb k numberKind hn, ne-eqb k stringKind hs, ne-eqb k compoundKind hc, ne-eqb k elementKind he, ne-eqb k atomKind ha, ne-eqb k guardedKind hg)))))))))))
+      let h = theory-by t q P in
+      (rw (x, y) at h) n s c e a g (λ z. o (rw (ne-eqb (word t q) numberKind (z .0), ne-eqb (word t q) stringKind (z .1), ne-eqb (word t q) compoundKind (z .2), ne-eqb (word t q) elementKind (z .3), ne-eqb (word t q) atomKind (z .4), ne-eqb (word t q) guardedKind (z .5))))
 
   pub number-says : word t q ≡ numberKind → theoryIn (saysAt t q) ≡ number
   unfolding saysAt
@@ -116,19 +97,9 @@ role-is t p k r x ek er e = ap roleOf (sym ek) ∙ sym er ∙ e
 abbrev pub Any : ℕ → Type 0
 Any b = Unit {0}
 
-abbrev pub SmallIf : (ℕ → Type 0) → Option Theory → Type 0
-SmallIf B (some x) = TheoryWith B x
-SmallIf B none = Unit {0}
-
-pub small-theory : (B : ℕ → Type 0) (s : Statement) → SmallWith B s → SmallIf B (theoryIn s)
-small-theory B (rule h b) k = tt
-small-theory B (output bs c) k = tt
-small-theory B (theory x) k = k
-small-theory B (comment bs) k = tt
-
 module _ {t : List ℕ} {p : ℕ} (l : LineOn t p) where
-  small-line : SmallIf IsByte (theoryIn (saysAt t (p + 2)))
-  small-line = small-theory IsByte (saysAt t (p + 2)) (l .small)
+  small-line : TheoryIf IsByte (theoryIn (saysAt t (p + 2)))
+  small-line = theory-small IsByte (saysAt t (p + 2)) (l .small)
 
   pub term-room : roleOf (word t (p + 2)) ≡ role.Term → word t (p + 2 + 1) < termPlaces
   term-room e = let d = rw e at (role-does t (p + 2)) in omega (arith, (rw (d .1) at small-line) .0)

@@ -24,12 +24,9 @@ never {A} {a} e = let z : _≡_ {A = ℕ} 0 1 = (cc) in omega arith
 not-true : false ≡ true → ⊥
 not-true e = let z : _≡_ {A = ℕ} 0 1 = (cc) in omega arith
 
-record Both (A : Type 0) (b : Bool) (x : Option A) (a : A) : Type 0 where
-  test : b ≡ true
-  then : x ≡ some a
-
-picked : {A : Type 0} (b : Bool) (x : Option A) (a : A) → pick b x none ≡ some a → Both A b x a
-picked true x a h = record { test = refl; then = h }
+-- the test holds, and what is picked is found
+pub picked : {A : Type 0} (b : Bool) (x : Option A) (a : A) → pick b x none ≡ some a → (b ≡ true) × (x ≡ some a)
+picked true x a h = (refl, h)
 picked false x a h = absurd (never h)
 
 same-is : (s l : List ℕ) → sameBytes s l ≡ true → s ≡ l
@@ -43,21 +40,16 @@ same-is (a ∷ s) (b ∷ l) h = go (same-is s l) (eqb a b) refl h
     go r true q h = rw (eqb-true a b q, r h)
     go r false q h = absurd (not-true h)
 
-string-is : (l : List ℕ) (x : Option Term) → isString l x ≡ true → x ≡ some (str l)
+pub string-is : (l : List ℕ) (x : Option Term) → isString l x ≡ true → x ≡ some (str l)
 unfolding isString
 string-is l none h = absurd (not-true h)
 string-is l (some (num k)) h = absurd (not-true h)
 string-is l (some (str s)) h = rw (same-is s l h)
 string-is l (some (comp t us)) h = absurd (not-true h)
 
-record Minus (look : ℕ → Option Term) (z : ℤ) : Type 0 where
-  t : ℕ
-  functor : z ≡ pos t
-  sign : look t ≡ some (str minus)
-
-minus-is : (look : ℕ → Option Term) (z : ℤ) → isMinus look z ≡ true → Minus look z
+minus-is : (look : ℕ → Option Term) (z : ℤ) → isMinus look z ≡ true → (t : ℕ) × (z ≡ pos t) × (look t ≡ some (str minus))
 unfolding isMinus
-minus-is look (pos t) h = record { t = t; functor = refl; sign = string-is minus (look t) h }
+minus-is look (pos t) h = (t, refl, string-is minus (look t) h)
 minus-is look (negsuc t) h = absurd (not-true h)
 
 record Sides (look : ℕ → Option Term) (x : Option Term) (p : Pair) : Type 0 where
@@ -74,9 +66,9 @@ pair-is look (some (comp t [])) p h = absurd (never h)
 pair-is look (some (comp t (a ∷ []))) p h = absurd (never h)
 pair-is look (some (comp t (a ∷ b ∷ []))) p h =
     let q = picked (isMinus look t) (some (record { x = a; y = b })) p h in
-    let m = minus-is look t (q .test) in
-    let e : record { x = a; y = b } ≡ p = cc (q .then) in
-    record { t = m .t; pair = ap (λ (z : ℤ). some (comp z (a ∷ b ∷ []))) (m .functor) ∙ ap (λ (s : Pair). some (comp (pos (m .t)) (s .x ∷ s .y ∷ []))) e; sign = m .sign }
+    let m = minus-is look t (q .0) in
+    let e : record { x = a; y = b } ≡ p = cc (q .1) in
+    record { t = m .0; pair = ap (λ (z : ℤ). some (comp z (a ∷ b ∷ []))) (m .1) ∙ ap (λ (s : Pair). some (comp (pos (m .0)) (s .x ∷ s .y ∷ []))) e; sign = m .2 }
 pair-is look (some (comp t (a ∷ b ∷ c ∷ us))) p h = absurd (never h)
 
 record Inside (look : ℕ → Option Term) (x : Option Element) (p : Pair) : Type 0 where
@@ -92,15 +84,10 @@ inside-is look (some (elem (w ∷ []) [])) p h = record { w = w; inside = refl; 
 inside-is look (some (elem (w ∷ []) (l ∷ ls))) p h = absurd (never h)
 inside-is look (some (elem (w ∷ u ∷ us) ls)) p h = absurd (never h)
 
-record Opposed (x : Option Term) (k : ℤ) : Type 0 where
-  j : ℤ
-  is : x ≡ some (num j)
-  opposed : k ≡ negℤ j
-
-opposite-is : (x : Option Term) (k : ℤ) → opposite x ≡ some k → Opposed x k
+opposite-is : (x : Option Term) (k : ℤ) → opposite x ≡ some k → (j : ℤ) × (x ≡ some (num j)) × (k ≡ negℤ j)
 unfolding opposite
 opposite-is none k h = absurd (never h)
-opposite-is (some (num j)) k h = record { j = j; is = refl; opposed = cc h }
+opposite-is (some (num j)) k h = (j, refl, cc h)
 opposite-is (some (str s)) k h = absurd (never h)
 opposite-is (some (comp t us)) k h = absurd (never h)
 
@@ -112,19 +99,15 @@ bound-is ls u (some (str s)) k e h = absurd (never h)
 bound-is ls u (some (comp t [])) k e h = absurd (never h)
 bound-is ls u (some (comp t (n ∷ []))) k e h =
     let q = picked (isMinus (term ls) t) (opposite (term ls n)) k h in
-    let m = minus-is (term ls) t (q .test) in
-    let o = opposite-is (term ls n) k (q .then) in
-    negated (m .t) n (o .j) (rw (← m .functor) e) (m .sign) (o .is) (o .opposed)
+    let m = minus-is (term ls) t (q .0) in
+    let o = opposite-is (term ls n) k (q .1) in
+    negated (m .0) n (o .0) (rw (← m .1) e) (m .2) (o .1) (o .2)
 bound-is ls u (some (comp t (n ∷ m ∷ us))) k e h = absurd (never h)
 
-record Joined (p : Option Pair) (q : Option ℤ) (d : Diff) : Type 0 where
-  pair : p ≡ some (record { x = d .x; y = d .y })
-  bound : q ≡ some (d .k)
-
-joined-is : (p : Option Pair) (q : Option ℤ) (d : Diff) → joined p q ≡ some d → Joined p q d
+pub joined-is : (p : Option Pair) (q : Option ℤ) (d : Diff) → joined p q ≡ some d → (p ≡ some (record { x = d .x; y = d .y })) × (q ≡ some (d .k))
 joined-is (some p) (some k) d h =
     let e : record { x = p .x; y = p .y; k = k } ≡ d = cc h in
-    record { pair = ap (λ (s : Diff). some (record { x = s .x; y = s .y })) e; bound = ap (λ (s : Diff). some (s .k)) e }
+    (ap (λ (s : Diff). some (record { x = s .x; y = s .y })) e, ap (λ (s : Diff). some (s .k)) e)
 joined-is (some p) none d h = absurd (never h)
 joined-is none q d h = absurd (never h)
 
@@ -136,11 +119,11 @@ said ls p [] g u d h = absurd (never h)
 said ls p (v ∷ w ∷ vs) g u d h = absurd (never h)
 said ls p (v ∷ []) g u d h =
     let a = picked (isString diffWord (term ls p)) _ d h in
-    let b = picked (isString atMost (term ls g)) (joined (pairIn (term ls) (elementAt ls v)) (boundOf (term ls) (term ls u))) d (a .then) in
-    let j = joined-is (pairIn (term ls) (elementAt ls v)) (boundOf (term ls) (term ls u)) d (b .then) in
-    let i = inside-is (term ls) (elementAt ls v) (record { x = d .x; y = d .y }) (j .pair) in
+    let b = picked (isString atMost (term ls g)) (joined (pairIn (term ls) (elementAt ls v)) (boundOf (term ls) (term ls u))) d (a .1) in
+    let j = joined-is (pairIn (term ls) (elementAt ls v)) (boundOf (term ls) (term ls u)) d (b .1) in
+    let i = inside-is (term ls) (elementAt ls v) (record { x = d .x; y = d .y }) (j .0) in
     record {
-      named = string-is diffWord (term ls p) (a .test);
+      named = string-is diffWord (term ls p) (a .0);
       v = v;
       one = refl;
       w = i .w;
@@ -148,8 +131,8 @@ said ls p (v ∷ []) g u d h =
       t = i .sides .t;
       pair = i .sides .pair;
       sign = i .sides .sign;
-      order = string-is atMost (term ls g) (b .test);
-      bound = bound-is ls u (term ls u) (d .k) refl (j .bound);
+      order = string-is atMost (term ls g) (b .0);
+      bound = bound-is ls u (term ls u) (d .k) refl (j .1);
     }
 
 -- a theory atom without a guard says nothing

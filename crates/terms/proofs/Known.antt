@@ -9,7 +9,7 @@ use lib.Dec.{eqb}
 use Rattle.faults.specs.Answer.{refused}
 use Rattle.basics.specs.Bools.{pick}
 use Rattle.basics.proofs.Bools.{or-assoc, or-none, or-true, or-neither}
-use Rattle.aspif.specs.Statements.{Term, Element, Theory, defines, collects, states, Line, theoryIn}
+use Rattle.aspif.specs.Statements.{Theory, defines, collects, states, Line, theoryIn}
 use Rattle.terms.specs.Says.{orElse, termIn, term, elementIn, elementAt}
 use Rattle.terms.specs.Terms.{known, statesIn, taken, defined, faulty, statedBy, more, differencesFrom, differences}
 use Rattle.terms.specs.inner.Tables.{changed, add, walk, termOn, elementOn, lookIn, elementsIn, takenIn, envOf, AllZero}
@@ -46,54 +46,56 @@ undefined : {A : Type 0} (a : Option A) → defined a ≡ false → a ≡ none
 undefined (some a) h = let z : _≡_ {A = Bool} true false = h in (cc)
 undefined none h = refl
 
+-- nothing more, or one number more
+module _ {A : Type 0} (f : ℕ → Option A) where
+  none-more : (λ v. orElse (f v) none) ≡ f
+  none-more = fun-ext (λ v. or-nothing (f v))
+
+  one-more : (u : ℕ) (x : A) → f u ≡ none → (λ v. orElse (f v) (pick (eqb v u) (some x) none)) ≡ changed f u (some x)
+  one-more u x n = fun-ext (λ v. go v (eqb v u) refl)
+    where
+      go : (v : ℕ) (b : Bool) → eqb v u ≡ b → orElse (f v) (pick b (some x) none) ≡ pick b (some x) (f v)
+      go v true q = rw (eqb-true v u q, n)
+      go v false q = or-nothing (f v)
+
+module _ (f : ℕ → Bool) where
+  none-taken : (λ v. f v || false) ≡ f
+  none-taken = fun-ext (λ v. or-none (f v))
+
+  one-taken : (a : ℕ) → (λ v. f v || eqb v a) ≡ changed f a true
+  one-taken a = fun-ext (λ v. go v (eqb v a))
+    where
+      go : (v : ℕ) (b : Bool) → f v || b ≡ pick b true (f v)
+      go v true = or-true (f v)
+      go v false = or-none (f v)
+
 module _ (before : List Line) (l : Line) where
-  terms-kept : ((u : ℕ) → term (l ∷ []) u ≡ none) → term (before ++ (l ∷ [])) ≡ term before
-  terms-kept h = fun-ext (λ u. term-append before (l ∷ []) u ∙ rw (h u) (or-nothing (term before u)))
+  terms-with : term (before ++ (l ∷ [])) ≡ (λ u. orElse (term before u) (termIn u (theoryIn (l .says))))
+  unfolding term
+  terms-with = fun-ext (λ u. term-append before (l ∷ []) u ∙ rw (or-nothing (termIn u (theoryIn (l .says)))))
 
-  elements-kept : ((v : ℕ) → elementAt (l ∷ []) v ≡ none) → elementAt (before ++ (l ∷ [])) ≡ elementAt before
-  elements-kept h = fun-ext (λ v. element-append before (l ∷ []) v ∙ rw (h v) (or-nothing (elementAt before v)))
+  elements-with : elementAt (before ++ (l ∷ [])) ≡ (λ v. orElse (elementAt before v) (elementIn v (theoryIn (l .says))))
+  unfolding elementAt
+  elements-with = fun-ext (λ v. element-append before (l ∷ []) v ∙ rw (or-nothing (elementIn v (theoryIn (l .says)))))
 
-  taken-kept : ((a : ℕ) → taken (l ∷ []) a ≡ false) → taken (before ++ (l ∷ [])) ≡ taken before
-  taken-kept h = fun-ext (λ a. taken-append before (l ∷ []) a ∙ rw (h a) (or-none (taken before a)))
-
-  -- a line that defines a term
-  terms-more : (u : ℕ) (x : Term) → ((v : ℕ) → term (l ∷ []) v ≡ pick (eqb v u) (some x) none) → term before u ≡ none
-      → term (before ++ (l ∷ [])) ≡ changed (term before) u (some x)
-  terms-more u x h n = fun-ext (λ v. term-append before (l ∷ []) v ∙ rw (h v) (go v (eqb v u) refl))
-    where
-      go : (v : ℕ) (b : Bool) → eqb v u ≡ b → orElse (term before v) (pick b (some x) none) ≡ pick b (some x) (term before v)
-      go v true q = rw (eqb-true v u q, n)
-      go v false q = or-nothing (term before v)
-
-  elements-more : (u : ℕ) (x : Element) → ((v : ℕ) → elementAt (l ∷ []) v ≡ pick (eqb v u) (some x) none) → elementAt before u ≡ none
-      → elementAt (before ++ (l ∷ [])) ≡ changed (elementAt before) u (some x)
-  elements-more u x h n = fun-ext (λ v. element-append before (l ∷ []) v ∙ rw (h v) (go v (eqb v u) refl))
-    where
-      go : (v : ℕ) (b : Bool) → eqb v u ≡ b → orElse (elementAt before v) (pick b (some x) none) ≡ pick b (some x) (elementAt before v)
-      go v true q = rw (eqb-true v u q, n)
-      go v false q = or-nothing (elementAt before v)
-
-  taken-more : (a : ℕ) → ((v : ℕ) → taken (l ∷ []) v ≡ eqb v a) → taken (before ++ (l ∷ [])) ≡ changed (taken before) a true
-  taken-more a h = fun-ext (λ v. taken-append before (l ∷ []) v ∙ rw (h v) (go v (eqb v a)))
-    where
-      go : (v : ℕ) (b : Bool) → taken before v || b ≡ pick b true (taken before v)
-      go v true = or-true (taken before v)
-      go v false = or-none (taken before v)
+  taken-with : taken (before ++ (l ∷ [])) ≡ (λ a. taken before a || statesIn a (theoryIn (l .says)))
+  unfolding taken
+  taken-with = fun-ext (λ a. taken-append before (l ∷ []) a ∙ rw (or-none (statesIn a (theoryIn (l .says)))))
 
   -- a line that is not faulty adds what it says
-  pub add-known : (s : Option Theory) → theoryIn (l .says) ≡ s → faulty (known before) s ≡ false → add (known before) s ≡ known (before ++ (l ∷ []))
-  unfolding add faulty term elementAt taken
+  add-known : (s : Option Theory) → theoryIn (l .says) ≡ s → faulty (known before) s ≡ false → add (known before) s ≡ known (before ++ (l ∷ []))
+  unfolding add faulty
   add-known (some (defines u x)) e h =
-      rw (terms-more u x (λ v. rw e (or-nothing _)) (undefined (term before u) (or-neither _ _ h .0)), elements-kept (λ v. rw e), taken-kept (λ a. rw e))
+      rw (terms-with, elements-with, taken-with, e, one-more (term before) u x (undefined (term before u) (or-neither _ _ h .0)), none-more (elementAt before), none-taken (taken before))
   add-known (some (collects v x)) e h =
-      rw (terms-kept (λ u. rw e), elements-more v x (λ u. rw e (or-nothing _)) (undefined (elementAt before v) (or-neither _ _ h .0)), taken-kept (λ a. rw e))
-  add-known (some (states a p vs g)) e h = rw (terms-kept (λ u. rw e), elements-kept (λ v. rw e), taken-more a (λ v. rw e (or-none _)))
-  add-known none e h = rw (terms-kept (λ u. rw e), elements-kept (λ v. rw e), taken-kept (λ a. rw e))
+      rw (terms-with, elements-with, taken-with, e, none-more (term before), one-more (elementAt before) v x (undefined (elementAt before v) (or-neither _ _ h .0)), none-taken (taken before))
+  add-known (some (states a p vs g)) e h = rw (terms-with, elements-with, taken-with, e, none-more (term before), none-more (elementAt before), one-taken (taken before) a)
+  add-known none e h = rw (terms-with, elements-with, taken-with, e, none-more (term before), none-more (elementAt before), none-taken (taken before))
 
 -- ---- the walk
 
 -- the walk with what the lines before define
-pub walk-is : (before ls : List Line) → walk (known before) ls ≡ differencesFrom before ls
+walk-is : (before ls : List Line) → walk (known before) ls ≡ differencesFrom before ls
 unfolding walk differencesFrom
 walk-is before [] = refl
 walk-is before (l ∷ ls) = go (walk-is (before ++ (l ∷ [])) ls) (faulty (known before) (theoryIn (l .says))) refl
@@ -104,27 +106,11 @@ walk-is before (l ∷ ls) = go (walk-is (before ++ (l ∷ [])) ls) (faulty (know
     go r true q = refl
     go r false q = rw (add-known before l (theoryIn (l .says)) refl q, r)
 
-terms-none : (t terms : List ℕ) → AllZero terms → (u : ℕ) → lookIn t terms u ≡ term [] u
-unfolding lookIn termOn term
-terms-none t terms a u = rw (a .zero-at u)
-
-elements-none : (t els : List ℕ) → AllZero els → (v : ℕ) → elementsIn t els v ≡ elementAt [] v
-unfolding elementsIn elementOn elementAt
-elements-none t els a v = rw (a .zero-at v)
-
-seen-none : (seen : List ℕ) → AllZero seen → (a : ℕ) → takenIn seen a ≡ taken [] a
-unfolding takenIn taken
-seen-none seen c a = rw (c .zero-at a)
-
--- blank tables stand for no lines
-pub blank-known : (t terms els seen : List ℕ) → AllZero terms → AllZero els → AllZero seen → envOf t terms els seen ≡ known []
-unfolding envOf
-blank-known t terms els seen a b c =
-    let x : lookIn t terms ≡ term [] = fun-ext (terms-none t terms a) in
-    let y : elementsIn t els ≡ elementAt [] = fun-ext (elements-none t els b) in
-    let z : takenIn seen ≡ taken [] = fun-ext (seen-none seen c) in
-    rw (x, y, z)
-
+-- tables of zeros stand for no lines
 pub start-is : (t terms els seen : List ℕ) (ls : List Line) → AllZero terms → AllZero els → AllZero seen → walk (envOf t terms els seen) ls ≡ differences ls
-unfolding differences
-start-is t terms els seen ls a b c = rw (blank-known t terms els seen a b c) (walk-is [] ls)
+unfolding differences envOf lookIn termOn term elementsIn elementOn elementAt takenIn taken
+start-is t terms els seen ls a b c =
+    let x : lookIn t terms ≡ term [] = fun-ext (λ u. rw (a .zero-at u)) in
+    let y : elementsIn t els ≡ elementAt [] = fun-ext (λ v. rw (b .zero-at v)) in
+    let z : takenIn seen ≡ taken [] = fun-ext (λ i. rw (c .zero-at i)) in
+    rw (x, y, z) (walk-is [] ls)

@@ -1,7 +1,7 @@
 -- The list of differences gives the names and the external atoms, and the bitmaps of the code hold exactly these.
 use Prim.Native.Nat.{ℕ, zero, suc, _+_, _≤_, _<_}
 use mathlib.Core.Path.{_≡_, refl, sym, ap, _∙_}
-use mathlib.Core.Logic.{_⊎_, inl, inr, ⊎-elim}
+use mathlib.Core.Logic.{inl, inr, ⊎-elim}
 use mathlib.Core.List.{List, [], _∷_, _++_, map}
 use mathlib.Core.Bool.{Bool, true, false, _&&_, _||_, not}
 use mathlib.Core.Option.{Option, some, none}
@@ -22,11 +22,12 @@ use Rattle.aspif.specs.Statements.{Theory, defines, collects, states, Line, the
 use Rattle.aspif.specs.inner.Words.{word}
 use Rattle.aspif.specs.inner.Kept.{AllInRange}
 use Rattle.diffs.specs.Diff.{Diff}
+use Rattle.aspif.proofs.Decoding.{TheoryIf, theory-small}
 use Rattle.terms.specs.Says.{Name, Names, headed}
 use Rattle.terms.specs.Terms.{Stated, differences, Lists, statesIn, taken, external}
 use Rattle.terms.specs.inner.Tables.{heldAt, tabulated}
 use Rattle.terms.specs.inner.Marks.{MarksThose, atomsIn, xsIn, ysIn, naming}
-use Rattle.terms.proofs.ByKind.{Any, SmallIf, small-theory}
+use Rattle.terms.proofs.ByKind.{Any}
 use Rattle.terms.proofs.Stating.{says-listed, listed-says, atoms-taken}
 use Rattle.terms.proofs.Bounds.{says-small}
 
@@ -44,15 +45,15 @@ tabulated-take g xs f h (suc n) l =
 
 module _ (atoms xs ys : List ℕ) (ks : List ℤ) (m : ℕ) where
   -- the atoms of the first m differences
-  pub held-atoms : m ≤ length atoms → atomsIn (tabulated m (heldAt atoms xs ys ks)) ≡ take m atoms
+  held-atoms : m ≤ length atoms → atomsIn (tabulated m (heldAt atoms xs ys ks)) ≡ take m atoms
   unfolding word
   held-atoms = tabulated-take (λ (s : Stated). s .atom) atoms (heldAt atoms xs ys ks) (λ i. refl) m
 
-  pub held-xs : m ≤ length xs → xsIn (tabulated m (heldAt atoms xs ys ks)) ≡ take m xs
+  held-xs : m ≤ length xs → xsIn (tabulated m (heldAt atoms xs ys ks)) ≡ take m xs
   unfolding word
   held-xs = tabulated-take (λ (s : Stated). s .says .x) xs (heldAt atoms xs ys ks) (λ i. refl) m
 
-  pub held-ys : m ≤ length ys → ysIn (tabulated m (heldAt atoms xs ys ks)) ≡ take m ys
+  held-ys : m ≤ length ys → ysIn (tabulated m (heldAt atoms xs ys ks)) ≡ take m ys
   unfolding word
   held-ys = tabulated-take (λ (s : Stated). s .says .y) ys (heldAt atoms xs ys ks) (λ i. refl) m
 
@@ -80,7 +81,7 @@ found-in g (s ∷ ds) a d q =
 
 module _ (ls : List Line) (ds : List Stated) (h : differences ls ≡ got ds) where
   -- a number that stands as x or y in the list is a name
-  pub naming-name : (n : ℕ) → naming ds n ≡ true → Name ls n
+  naming-name : (n : ℕ) → naming ds n ≡ true → Name ls n
   naming-name n q =
       ⊎-elim
       (λ e. let r = stands (λ (s : Stated). s .says .x) ds n e in record { atom = r .atom; diff = r .diff; says = listed-says ls ds h (r .atom) (r .diff) (r .listed); side = inl (r .is) })
@@ -88,7 +89,7 @@ module _ (ls : List Line) (ds : List Stated) (h : differences ls ≡ got ds) whe
       (or-cases (among n (xsIn ds)) (among n (ysIn ds)) q)
 
   -- a name stands as x or y in the list
-  pub name-naming : (n : ℕ) → Name ls n → naming ds n ≡ true
+  name-naming : (n : ℕ) → Name ls n → naming ds n ≡ true
   name-naming n q =
       let l = says-listed ls ds h (q .atom) (q .diff) (q .says) in
       ⊎-elim
@@ -101,9 +102,9 @@ module _ (ls : List Line) (ds : List Stated) (h : differences ls ≡ got ds) whe
 taken-below : (ls : List Line) (a : ℕ) → AllInRange ls → atomPlaces ≤ a → taken ls a ≡ false
 unfolding taken
 taken-below [] a q o = refl
-taken-below (l ∷ ls) a q o = rw (no (theoryIn (l .says)) (small-theory Any (l .says) (q .0))) (taken-below ls a (q .1) o)
+taken-below (l ∷ ls) a q o = rw (no (theoryIn (l .says)) (theory-small Any (l .says) (q .0))) (taken-below ls a (q .1) o)
   where
-    no : (s : Option Theory) → SmallIf Any s → statesIn a s ≡ false
+    no : (s : Option Theory) → TheoryIf Any s → statesIn a s ≡ false
     no (some (defines u t)) k = refl
     no (some (collects v e)) k = refl
     no (some (states b p vs g)) k = ne-eqb a b (λ e. omega (arith, k .0 .1))

@@ -18,7 +18,7 @@ use Rattle.aspif.specs.Grammar.{integerOf, literalOf}
 use Rattle.aspif.specs.inner.Words.{numberKind, stringKind, compoundKind, elementKind, guardedKind, word, wordsFrom, literalsAt, saysAt}
 use Rattle.aspif.proofs.Walking.{first-word, words-length}
 use Rattle.terms.specs.Says.{diffWord, minus, atMost}
-use Rattle.terms.specs.Terms.{defined, sameBytes, isString, isMinus, opposite, boundOf, Pair, pairOf, pairIn, joined, differenceOf}
+use Rattle.terms.specs.Terms.{defined, sameBytes, isString, isMinus, opposite, boundOf, pairOf, pairIn, joined, differenceOf}
 use Rattle.terms.specs.inner.Tables.{isTerm, minusOf, termOf, elementOf, termOn, elementOn, lookIn, elementsIn, differenceIn, statedOn}
 use Rattle.terms.proofs.Signs.{back, fits-int, fits-opposite, term-half}
 use Rattle.terms.proofs.ByKind.{by-kind, number-says, string-says, compound-says, element-says, guarded-says}
@@ -43,7 +43,7 @@ module _ (look : ℕ → Option Term) (f : ℕ) (b : Bool) (eb : b ≡ isTerm (i
 
 -- ---- what an entry stands for
 
-pub entry-is : (t : List ℕ) (e : ℕ) → (e ≡ 0 → ⊥) → termOn t e ≡ some (termOf (theoryIn (saysAt t (e - 1))))
+entry-is : (t : List ℕ) (e : ℕ) → (e ≡ 0 → ⊥) → termOn t e ≡ some (termOf (theoryIn (saysAt t (e - 1))))
 unfolding termOn
 entry-is t zero z = absurd (z refl)
 entry-is t (suc q) z = let d : suc q - 1 ≡ q = omega arith in rw d

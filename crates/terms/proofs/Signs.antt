@@ -1,6 +1,6 @@
 -- Signed numbers of 32 bits: a word w stands for an integer whose size is below 2^31, so neither it nor its negation wraps.
 use Prim.Native.Nat.{ℕ, zero, suc, _/_, _%_, _<_}
-use mathlib.Core.Path.{_≡_, refl, sym}
+use mathlib.Core.Path.{_≡_, refl, sym, _∙_}
 use mathlib.Core.Bool.{Bool, true, false}
 use native.Mathlib.Omega.{arith}
 use borrow.Author.Tests.{eq-eqb, ne-eqb, eqb-true, eqb-false}
@@ -8,15 +8,16 @@ use lib.Dec.{eqb}
 use lib.IntN.{ℤ, pos, negℤ, _-ℤ_, +ℤ-idl, negℤ-negℤ}
 use mir.Syntax.{w32}
 use mir.Val.{SFits, toZ, ofZ}
-use mir.Facts.{toZ-ofZ}
+use mir.Facts.{toZ-ofZ, toZ-pos}
 use Rattle.basics.specs.Bools.{pick}
+use Rattle.basics.proofs.Bools.{picked}
 use Rattle.aspif.specs.Grammar.{integerOf}
 use Rattle.terms.specs.inner.Tables.{isTerm}
 
-pub fits-pos : (v : ℕ) → v < 2147483648 → SFits w32 (pos v)
+fits-pos : (v : ℕ) → v < 2147483648 → SFits w32 (pos v)
 fits-pos v h = record { sfits = h }
 
-pub fits-neg : (v : ℕ) → v < 2147483648 → SFits w32 (negℤ (pos v))
+fits-neg : (v : ℕ) → v < 2147483648 → SFits w32 (negℤ (pos v))
 fits-neg zero h = record { sfits = h }
 fits-neg (suc n) h = record { sfits = omega arith }
 
@@ -24,35 +25,33 @@ fits-neg (suc n) h = record { sfits = omega arith }
 pub back : {z : ℤ} → SFits w32 z → toZ w32 (ofZ w32 z) ≡ z
 back f = toZ-ofZ f
 
--- where an integer and its negation fit, 0 less it does not wrap and is the negation
-module _ (z : ℤ) {v : ℤ} (e : z ≡ v) (f : SFits w32 v) (g : SFits w32 (negℤ v)) where
-  pub less-fits : SFits w32 (pos 0 -ℤ toZ w32 (ofZ w32 z))
-  less-fits = rw (e, back f, +ℤ-idl (negℤ v)) g
+-- the integer that a word stands for, and its negation
+module _ (w : ℕ) (h : w < 4294967296) where
+  half : toZ w32 (w / 2) ≡ pos (w / 2)
+  half = toZ-pos w32 (omega arith)
 
-  pub less-is : toZ w32 (ofZ w32 (pos 0 -ℤ toZ w32 (ofZ w32 z))) ≡ negℤ v
-  less-is = rw (e, back f, +ℤ-idl (negℤ v), back g)
+  pub even-is : w % 2 ≡ 0 → toZ w32 (w / 2) ≡ integerOf w
+  even-is a = rw (half, eq-eqb _ _ a)
 
--- what an even and an odd word stand for
-module _ (z : ℤ) (w : ℕ) (h : w < 4294967296) where
-  pub even-is : w % 2 ≡ 0 → z ≡ pos (w / 2) → toZ w32 (ofZ w32 z) ≡ integerOf w
-  even-is a e = rw (e, back (fits-pos (w / 2) (omega arith)), eq-eqb _ _ a)
+  pub odd-fits : SFits w32 (pos 0 -ℤ toZ w32 (w / 2))
+  odd-fits = rw (half, +ℤ-idl (negℤ (pos (w / 2)))) (fits-neg (w / 2) (omega arith))
 
-  pub odd-is : (w % 2 ≡ 0 → ⊥) → z ≡ negℤ (pos (w / 2)) → toZ w32 (ofZ w32 z) ≡ integerOf w
-  odd-is a e = rw (e, back (fits-neg (w / 2) (omega arith)), ne-eqb _ _ a)
+  pub odd-is : (w % 2 ≡ 0 → ⊥) → toZ w32 (ofZ w32 (pos 0 -ℤ toZ w32 (w / 2))) ≡ integerOf w
+  odd-is a = back odd-fits ∙ rw (half, +ℤ-idl (negℤ (pos (w / 2))), ne-eqb _ _ a)
 
-pub fits-int : (w : ℕ) → w < 4294967296 → SFits w32 (integerOf w)
-fits-int w h = go (eqb (w % 2) 0)
-  where
-    go : (b : Bool) → SFits w32 (pick b (pos (w / 2)) (negℤ (pos (w / 2))))
-    go true = fits-pos (w / 2) (omega arith)
-    go false = fits-neg (w / 2) (omega arith)
+  pub fits-int : SFits w32 (integerOf w)
+  fits-int = picked (SFits w32) (eqb (w % 2) 0) (pos (w / 2)) (negℤ (pos (w / 2))) (fits-pos (w / 2) (omega arith)) (fits-neg (w / 2) (omega arith))
 
-pub fits-opposite : (w : ℕ) → w < 4294967296 → SFits w32 (negℤ (integerOf w))
-fits-opposite w h = go (eqb (w % 2) 0)
-  where
-    go : (b : Bool) → SFits w32 (negℤ (pick b (pos (w / 2)) (negℤ (pos (w / 2)))))
-    go true = fits-neg (w / 2) (omega arith)
-    go false = rw negℤ-negℤ (fits-pos (w / 2) (omega arith))
+  pub fits-opposite : SFits w32 (negℤ (integerOf w))
+  fits-opposite =
+      picked (λ z. SFits w32 (negℤ z)) (eqb (w % 2) 0) (pos (w / 2)) (negℤ (pos (w / 2))) (fits-neg (w / 2) (omega arith)) (rw negℤ-negℤ (fits-pos (w / 2) (omega arith)))
+
+  module _ (z : ℤ) (e : z ≡ integerOf w) where
+    pub less-fits : SFits w32 (pos 0 -ℤ toZ w32 (ofZ w32 z))
+    less-fits = rw (e, back fits-int, +ℤ-idl (negℤ (integerOf w))) fits-opposite
+
+    pub less-is : toZ w32 (ofZ w32 (pos 0 -ℤ toZ w32 (ofZ w32 z))) ≡ negℤ (integerOf w)
+    less-is = back less-fits ∙ rw (e, back fits-int, +ℤ-idl (negℤ (integerOf w)))
 
 -- ---- a compound's t
 

@@ -15,35 +15,16 @@ use Rattle.terms.specs.Says.{term, elementAt, Difference, SaysIn, Says}
 use Rattle.basics.specs.Bools.{pick}
 use Rattle.basics.specs.Lists.{All, NotIn, Distinct, Some, among}
 use Rattle.basics.proofs.Bools.{or-neither}
-use Rattle.diffs.proofs.Names.{all-map}
+use Rattle.basics.proofs.Lists.{all-so}
 use Rattle.terms.specs.Terms.{statesIn, known, taken, defined, differenceOf, undefinedUse, notDifference, faulty, Stated, statedBy, more, differencesFrom, differences, Lists}
 use Rattle.terms.proofs.Known.{taken-append}
 use Rattle.terms.proofs.Differing.{said, unsaid, said-more, said-one}
 
 -- ---- a line that is not faulty
 
-last-false : (a b c d : Bool) → a || (b || (c || d)) ≡ false → d ≡ false
-last-false false false false d h = h
-last-false true b c d h = let z : _≡_ {A = Bool} true false = h in (cc)
-last-false false true c d h = let z : _≡_ {A = Bool} true false = h in (cc)
-last-false false false true d h = let z : _≡_ {A = Bool} true false = h in (cc)
-
-third-false : (a b c d : Bool) → a || (b || (c || d)) ≡ false → c ≡ false
-third-false false false false d h = refl
-third-false true b c d h = let z : _≡_ {A = Bool} true false = h in (cc)
-third-false false true c d h = let z : _≡_ {A = Bool} true false = h in (cc)
-third-false false false true d h = h
-
-record Is {A : Type 0} (x : Option A) : Type 0 where
-  value : A
-  is : x ≡ some value
-
-there : {A : Type 0} (x : Option A) → not (defined x) ≡ false → Is x
-there (some a) h = record { value = a; is = refl }
-there none h = let z : _≡_ {A = Bool} true false = h in absurd (not-so z)
-  where
-    not-so : true ≡ false → ⊥
-    not-so z = let y : _≡_ {A = ℕ} 0 1 = (cc) in omega arith
+there : {A : Type 0} (x : Option A) → not (defined x) ≡ false → (a : A) × (x ≡ some a)
+there (some a) h = (a, refl)
+there none h = let z : _≡_ {A = ℕ} 0 1 = (cc) in absurd (omega arith)
 
 -- a theory atom that is not faulty states a difference, and its atom was not taken
 record Fine (before : List Line) (a p : ℕ) (vs : List ℕ) (g : Guard) : Type 0 where
@@ -54,8 +35,10 @@ record Fine (before : List Line) (a p : ℕ) (vs : List ℕ) (g : Guard) : Type 
 fine : (before : List Line) (a p : ℕ) (vs : List ℕ) (g : Guard) → faulty (known before) (some (states a p vs g)) ≡ false → Fine before a p vs g
 unfolding faulty
 fine before a p vs g h =
-    let q = there (differenceOf (term before) (elementAt before) p vs g) (last-false false (undefinedUse (known before) (some (states a p vs g))) (taken before a) (notDifference (known before) (some (states a p vs g))) h) in
-    record { diff = q .value; is = q .is; fresh = third-false false (undefinedUse (known before) (some (states a p vs g))) (taken before a) (notDifference (known before) (some (states a p vs g))) h }
+    let o = or-neither (undefinedUse (known before) (some (states a p vs g))) _ h .1 in
+    let q = or-neither (taken before a) (notDifference (known before) (some (states a p vs g))) o in
+    let d = there (differenceOf (term before) (elementAt before) p vs g) (q .1) in
+    record { diff = d .0; is = d .1; fresh = q .0 }
 
 -- ---- one turn of the list
 
@@ -179,7 +162,7 @@ not-atom b (s ∷ ds) h = (λ e. eqb-false (s .atom) b (or-neither (eqb (s .atom
 
 module _ (before : List Line) (l : Line) (rest ds : List Stated) (r : Apart (before ++ (l ∷ [])) rest) where
   still-fresh : All (λ (s : Stated). taken before (s .atom) ≡ false) rest
-  still-fresh = all-map _ _ (λ (s : Stated) h. untaken before l (s .atom) h .0) rest (r .fresh)
+  still-fresh = all-so (λ (s : Stated) h. untaken before l (s .atom) h .0) rest (r .fresh)
 
   same-apart : got rest ≡ got ds → Apart before ds
   same-apart h = rw (← got-is h) (record { fresh = still-fresh; distinct = r .distinct })
@@ -192,7 +175,7 @@ module _ (before : List Line) (l : Line) (rest ds : List Stated) (r : Apart (bef
       let k = fine before b q vs g f in
       let y : record { atom = b; says = k .diff } ∷ rest ≡ ds = more-is _ rest ds (rw (k .is) at h) in
       rw (← y)
-      (record { fresh = (k .fresh, still-fresh); distinct = (not-atom b rest (all-map _ _ (λ (s : Stated) w. rw p at (untaken before l (s .atom) w .1)) rest (r .fresh)), r .distinct) })
+      (record { fresh = (k .fresh, still-fresh); distinct = (not-atom b rest (all-so (λ (s : Stated) w. rw p at (untaken before l (s .atom) w .1)) rest (r .fresh)), r .distinct) })
   more-apart none p f h = same-apart h
 
 apart-from : (before ls : List Line) (ds : List Stated) → differencesFrom before ls ≡ got ds → Apart before ds

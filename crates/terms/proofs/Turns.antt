@@ -1,13 +1,13 @@
 -- One line's turn: what entering its number does to the tables, how its answer goes on to the lines behind it, and how a difference is stored.
 use Prim.Native.Nat.{ℕ, zero, suc, _+_, _≤_, _<_}
-use mathlib.Core.Path.{_≡_, refl, sym, ap, _∙_, fun-ext}
+use mathlib.Core.Path.{_≡_, refl, sym, _∙_, fun-ext}
 use mathlib.Core.List.{List, [], _∷_, append-assoc}
 use mathlib.Core.Bool.{Bool, true, false, _&&_, not}
 use mathlib.Core.Option.{Option, some, none}
 use native.Mathlib.Omega.{arith}
 use native.Mathlib.Numerals.{add-one}
 use borrow.Author.Tests.{eq-eqb, ne-eqb, eqb-true, eqb-false}
-use lib.ListN.{length, getD, set, length-set}
+use lib.ListN.{length, getD, set}
 use lib.Seq.{getD-set-same, getD-set-other}
 use lib.Dec.{eqb}
 use lib.IntN.{ℤ, pos}
@@ -18,7 +18,7 @@ use Rattle.faults.specs.inner.Places.{atomPlaces}
 use Rattle.faults.specs.declared.Step.the-variants.{Good, Refused}
 use Rattle.faults.specs.declared.Refusal.{Refusal}
 use Rattle.aspif.specs.Statements.{Term, Element, Guard, unguarded, guard, theoryIn}
-use Rattle.aspif.specs.inner.Words.{word, wordsFrom, saysAt}
+use Rattle.aspif.specs.inner.Words.{word, saysAt}
 use Rattle.diffs.specs.Diff.{Diff}
 use Rattle.terms.specs.Says.{diffWord, atMost}
 use Rattle.terms.specs.Terms.{defined, allDefined, isString, boundOf, Pair, pairIn, joined, differenceOf, guardUses, Stated, faulty, more}
@@ -28,7 +28,7 @@ use Rattle.terms.specs.declared.lines.Turn.{Turn}
 use Rattle.terms.specs.declared.lines.Role.the-variants as role
 use Rattle.terms.specs.declared.lines.Turn.the-variants as turn
 use Rattle.terms.proofs.ByKind.{role-does}
-use Rattle.terms.proofs.Differing.{never}
+use Rattle.terms.proofs.Differing.{never, picked, string-is, joined-is}
 
 -- ---- what entering a number does
 
@@ -86,33 +86,15 @@ module _ (t terms els seen : List ℕ) (p : ℕ) where
 
 -- ---- a difference uses nothing that is unknown
 
-string-defined : (l : List ℕ) (x : Option Term) → isString l x ≡ true → defined x ≡ true
-unfolding isString
-string-defined l none h = h
-string-defined l (some x) h = refl
-
-pair-there : (look : ℕ → Option Term) (e : Option Element) → defined (pairIn look e) ≡ true → defined e ≡ true
+pair-there : (look : ℕ → Option Term) (x : Option Element) {p : Pair} → pairIn look x ≡ some p → defined x ≡ true
 unfolding pairIn
-pair-there look none h = h
+pair-there look none h = absurd (never h)
 pair-there look (some e) h = refl
 
-bound-defined : (look : ℕ → Option Term) (x : Option Term) → defined (boundOf look x) ≡ true → defined x ≡ true
+bound-there : (look : ℕ → Option Term) (x : Option Term) {k : ℤ} → boundOf look x ≡ some k → defined x ≡ true
 unfolding boundOf
-bound-defined look none h = h
-bound-defined look (some x) h = refl
-
-record Parts (b c : Bool) (p : Option Pair) (q : Option ℤ) : Type 0 where
-  name-is : b ≡ true
-  guard-is : c ≡ true
-  pair-is : defined p ≡ true
-  bound-is : defined q ≡ true
-
-parts : (d : Diff) (b c : Bool) (p : Option Pair) (q : Option ℤ) → pick b (pick c (joined p q) none) none ≡ some d → Parts b c p q
-parts d true true (some p) (some k) h = record { name-is = refl; guard-is = refl; pair-is = refl; bound-is = refl }
-parts d true true (some p) none h = absurd (never h)
-parts d true true none q h = absurd (never h)
-parts d true false p q h = absurd (never h)
-parts d false c p q h = absurd (never h)
+bound-there look none h = absurd (never h)
+bound-there look (some x) h = refl
 
 all-known : (look : ℕ → Option Term) (els : ℕ → Option Element) (p : ℕ) (vs : List ℕ) (g : Guard) (d : Diff)
     → differenceOf look els p vs g ≡ some d → defined (look p) && (allDefined els vs && guardUses look g) ≡ true
@@ -121,8 +103,10 @@ all-known look els p [] g d h = absurd (never h)
 all-known look els p (v ∷ w ∷ vs) g d h = absurd (never h)
 all-known look els p (v ∷ []) unguarded d h = absurd (never h)
 all-known look els p (v ∷ []) (guard g u) d h =
-    let q = parts d (isString diffWord (look p)) (isString atMost (look g)) (pairIn look (els v)) (boundOf look (look u)) h in
-    rw (string-defined diffWord (look p) (q .name-is), pair-there look (els v) (q .pair-is), string-defined atMost (look g) (q .guard-is), bound-defined look (look u) (q .bound-is))
+    let a = picked (isString diffWord (look p)) _ d h in
+    let b = picked (isString atMost (look g)) (joined (pairIn look (els v)) (boundOf look (look u))) d (a .1) in
+    let j = joined-is (pairIn look (els v)) (boundOf look (look u)) d (b .1) in
+    rw (string-is diffWord (look p) (a .0), pair-there look (els v) (j .0), string-is atMost (look g) (b .0), bound-there look (look u) (j .1))
 
 -- ---- how many atoms are entered: each difference enters one, so there are at most as many as there are atoms
 

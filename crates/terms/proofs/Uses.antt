@@ -13,7 +13,7 @@ use Rattle.aspif.specs.Grammar.{integerOf}
 use Rattle.aspif.specs.inner.Words.{compoundKind, word, wordsFrom, saysAt}
 use Rattle.aspif.proofs.Walking.{first-word}
 use Rattle.terms.specs.Terms.{defined, allDefined, functorKnown, termUses, faulty}
-use Rattle.terms.specs.inner.Tables.{roleOf, isTerm, lookIn, elementOn, elementsIn, envOf}
+use Rattle.terms.specs.inner.Tables.{roleOf, isTerm, lookIn, elementsIn, envOf}
 use Rattle.terms.specs.declared.lines.Role.the-variants as role
 use Rattle.terms.proofs.Signs.{term-half}
 use Rattle.terms.proofs.ByKind.{by-kind, compound-says, role-does}

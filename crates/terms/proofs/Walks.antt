@@ -1,5 +1,5 @@
 -- The walk over all lines of the tape: what holds before each turn, at the start, and at the end.
-use Prim.Native.Nat.{ℕ, zero, suc, _-_, _≤_, _<_}
+use Prim.Native.Nat.{ℕ, _-_, _≤_, _<_}
 use mathlib.Core.Path.{_≡_, refl, sym, ap, _∙_}
 use mathlib.Core.List.{List, append-nil}
 use mathlib.Core.Option.{Option}
@@ -18,45 +18,47 @@ use Rattle.aspif.specs.inner.Kept.{Ahead}
 use Rattle.aspif.proofs.Walking.{ahead-next, lines-next}
 use Rattle.terms.specs.Terms.{Stated, differences}
 use Rattle.terms.specs.inner.Tables.{AllZero, envOf, entered, walk, heldAt, tabulated, gather}
-use Rattle.terms.specs.inner.Values.{asDifferences, Roomy, asTurn, oneMore, Tables, Turned, Stored}
+use Rattle.terms.specs.inner.Values.{asDifferences, Roomy, asTurn, Tables, Turned, Stored}
 use Rattle.terms.specs.declared.lines.Turn.{Turn}
 use Rattle.terms.proofs.Turns.{gather-none, entered-none}
 use Rattle.terms.proofs.Known.{start-is}
 
--- ---- tables and slices that keep their lengths
+-- ---- slices that keep their lengths
 
-pub record Kept (ts es ss as′ xs ys : List ℕ) (ks : List ℤ) (ts′ es′ ss′ as″ xs′ ys′ : List ℕ) (ks′ : List ℤ) : Type 0 where
-  pub of-terms : length ts′ ≡ length ts
-  pub of-elements : length es′ ≡ length es
-  pub of-seen : length ss′ ≡ length ss
+pub record Kept (as′ xs ys : List ℕ) (ks : List ℤ) (as″ xs′ ys′ : List ℕ) (ks′ : List ℤ) : Type 0 where
   pub of-atoms : length as″ ≡ length as′
   pub of-xs : length xs′ ≡ length xs
   pub of-ys : length ys′ ≡ length ys
   pub of-ks : length ks′ ≡ length ks
 
-pub kept-start : (ts es ss as′ xs ys : List ℕ) (ks : List ℤ) → Kept ts es ss as′ xs ys ks ts es ss as′ xs ys ks
-kept-start ts es ss as′ xs ys ks =
-    record { of-terms = refl; of-elements = refl; of-seen = refl; of-atoms = refl; of-xs = refl; of-ys = refl; of-ks = refl }
+pub kept-start : (as′ xs ys : List ℕ) (ks : List ℤ) → Kept as′ xs ys ks as′ xs ys ks
+kept-start as′ xs ys ks = record { of-atoms = refl; of-xs = refl; of-ys = refl; of-ks = refl }
 
-module _ {ts es ss as′ xs ys : List ℕ} {ks : List ℤ} {ts′ es′ ss′ as″ xs′ ys′ : List ℕ} {ks′ : List ℤ} (k : Kept ts es ss as′ xs ys ks ts′ es′ ss′ as″ xs′ ys′ ks′) where
-  pub kept-tables : Tables ts es ss → Tables ts′ es′ ss′
-  kept-tables r = record { for-terms = k .of-terms ∙ r .for-terms; for-elements = k .of-elements ∙ r .for-elements; for-seen = k .of-seen ∙ r .for-seen }
-
-  pub kept-room : Roomy as′ xs ys ks → Roomy as″ xs′ ys′ ks′
-  kept-room r =
-      record { for-atoms = omega (arith, k .of-atoms, r .for-atoms); for-xs = omega (arith, k .of-xs, r .for-xs); for-ys = omega (arith, k .of-ys, r .for-ys); for-ks = omega (arith, k .of-ks, r .for-ks) }
+pub kept-room : {as′ xs ys as″ xs′ ys′ : List ℕ} {ks ks′ : List ℤ} → Kept as′ xs ys ks as″ xs′ ys′ ks′ → Roomy as′ xs ys ks → Roomy as″ xs′ ys′ ks′
+kept-room k r =
+    record { for-atoms = omega (arith, k .of-atoms, r .for-atoms); for-xs = omega (arith, k .of-xs, r .for-xs); for-ys = omega (arith, k .of-ys, r .for-ys); for-ks = omega (arith, k .of-ks, r .for-ks) }
 
 -- ---- what holds before each turn
 
 pub record Underway (t : List ℕ) (n p left m : ℕ) (ts es ss as′ xs ys : List ℕ) (ks : List ℤ) : Type 0 where
   pub answer : gather m (heldAt as′ xs ys ks) (walk (envOf t ts es ss) (linesFrom t p left)) ≡ differences (linesOf t n)
   pub ahead : Ahead t p left
+  pub tables : Tables ts es ss
   pub counted : m ≡ entered ss
 
-pub at-first : (t : List ℕ) (n : ℕ) (ts es ss as′ xs ys : List ℕ) (ks : List ℤ) → Ahead t 0 n → AllZero ts → AllZero es → AllZero ss
-    → Underway t n 0 n 0 ts es ss as′ xs ys ks
-at-first t n ts es ss as′ xs ys ks q a b c =
-    record { answer = gather-none (heldAt as′ xs ys ks) _ ∙ start-is t ts es ss (linesOf t n) a b c; ahead = q; counted = entered-none ss c }
+zero-table : (n : ℕ) → AllZero (replicate {A = ℕ} n 0)
+unfolding word
+zero-table n = record { zero-at = λ i. zeros n i }
+
+pub at-first : (t : List ℕ) (n : ℕ) (as′ xs ys : List ℕ) (ks : List ℤ) → Ahead t 0 n
+    → Underway t n 0 n 0 (replicate {A = ℕ} termPlaces 0) (replicate {A = ℕ} elementPlaces 0) (replicate {A = ℕ} atomPlaces 0) as′ xs ys ks
+at-first t n as′ xs ys ks q =
+    record {
+      answer = gather-none (heldAt as′ xs ys ks) _ ∙ start-is t _ _ _ (linesOf t n) (zero-table termPlaces) (zero-table elementPlaces) (zero-table atomPlaces);
+      ahead = q;
+      tables = record { for-terms = length-replicate {A = ℕ} termPlaces 0; for-elements = length-replicate {A = ℕ} elementPlaces 0; for-seen = length-replicate {A = ℕ} atomPlaces 0 };
+      counted = entered-none _ (zero-table atomPlaces);
+    }
 
 same-count : (a : Answer (Option Stated)) (m k : ℕ) → got m ≡ bind a (λ d. got k) → m ≡ k
 same-count (got d) m k h = cc h
@@ -73,11 +75,12 @@ module _ {t : List ℕ} {n p left m : ℕ} {ts es ss as′ xs ys : List ℕ} {ks
   at-refusal x e = rw e (rw e at turned)
 
   -- a line taken
-  pub at-next : (m′ next : ℕ) → r ≡ Good m′ → next ≡ after t p → Underway t n next (left - 1) m′ ts′ es′ ss′ as″ xs′ ys′ ks′
-  at-next m′ next e q =
+  pub at-next : (m′ next : ℕ) → r ≡ Good m′ → next ≡ after t p → length ts′ ≡ length ts → length es′ ≡ length es → length ss′ ≡ length ss → Underway t n next (left - 1) m′ ts′ es′ ss′ as″ xs′ ys′ ks′
+  at-next m′ next e q lt le ls =
       record {
         answer = rw q (rw e at turned);
         ahead = rw q (ahead-next t p left h (u .ahead) .1);
+        tables = record { for-terms = lt ∙ u .tables .for-terms; for-elements = le ∙ u .tables .for-elements; for-seen = ls ∙ u .tables .for-seen };
         counted = same-count (asTurn s) m′ (entered ss′) ((rw (e, u .counted) at (put .counts)) ∙ took .counts);
       }
 
@@ -86,15 +89,7 @@ pub at-last : (t : List ℕ) (n p left m : ℕ) (ts es ss as′ xs ys : List ℕ
 unfolding gather walk linesFrom
 at-last t n p left m ts es ss as′ xs ys ks h u = let e : left ≡ 0 = omega arith in sym (ap got (append-nil _)) ∙ (rw e at (u .answer))
 
--- ---- new tables and slices
-
-pub zero-table : (n : ℕ) → AllZero (replicate {A = ℕ} n 0)
-unfolding word
-zero-table n = record { zero-at = λ i. zeros n i }
-
-pub new-tables : Tables (replicate {A = ℕ} termPlaces 0) (replicate {A = ℕ} elementPlaces 0) (replicate {A = ℕ} atomPlaces 0)
-new-tables =
-    record { for-terms = length-replicate {A = ℕ} termPlaces 0; for-elements = length-replicate {A = ℕ} elementPlaces 0; for-seen = length-replicate {A = ℕ} atomPlaces 0 }
+-- ---- new slices
 
 -- four new arrays are the room that `collect` requires
 pub new-room : Roomy (replicate {A = ℕ} atomPlaces 0) (replicate {A = ℕ} atomPlaces 0) (replicate {A = ℕ} atomPlaces 0) (replicate {A = ℤ} atomPlaces (pos 0))

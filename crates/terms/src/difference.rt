@@ -2,7 +2,7 @@
 ghost use mathlib.Core.Path.{_≡_};
 ghost use Prim.Native.Nat.{_+_, _≤_, _<_};
 ghost use lib.ListN.{length};
-ghost use lib.IntN.{pos, negℤ};
+ghost use lib.IntN.{negℤ};
 ghost use Rattle.aspif.specs.Grammar.{integerOf};
 ghost use Rattle.terms.specs.Terms.{sameBytes, isString, isMinus, opposite, boundOf, pairOf, pairIn, joined};
 ghost use Rattle.aspif.specs.inner.Words.{wordsFrom};
@@ -100,31 +100,15 @@ fn is_minus(tape: &[u32], terms: &[usize], t: u32) -> bool
     false
 }
 
-// A number as a bound.
-fn whole(v: u32) -> i32
-    requires { ⌜ v < 2147483648 ⌝ }
-    ensures { λ r. ⌜ r ≡ pos v ⌝ }
-{
-    v as i32
-}
-
-// A number negated, as a bound.
-fn minus(v: u32) -> i32
-    requires { ⌜ v < 2147483648 ⌝ }
-    ensures { λ r. ⌜ r ≡ negℤ (pos v) ⌝ }
-{
-    let k = whole(v);
-    0 - k
-}
-
 // The integer that is kept as w.
 fn signed(w: u32) -> i32
     ensures { λ r. ⌜ r ≡ integerOf w ⌝ }
 {
+    let k = (w / 2) as i32;
     if w % 2 == 0 {
-        return whole(w / 2);
+        return k;
     }
-    minus(w / 2)
+    0 - k
 }
 
 // The integer that is kept as w, negated.
@@ -232,26 +216,19 @@ fn pair_in(tape: &[u32], terms: &[usize], elements: &[usize], v: ElementNo) -> S
     pair(tape, terms, w)
 }
 
-// Two sides and a bound together.
-fn join(s: Sides, l: Limit) -> Said
-    ensures { λ r. ⌜ asSaid r ≡ joined (asSides s) (asLimit l) ⌝ }
-{
-    let Sides::Are(x, y) = s else {
-        return Said::Not;
-    };
-    let Limit::Is(k) = l else {
-        return Said::Not;
-    };
-    Said::Is(x, y, k)
-}
-
 // The difference of the element v, with the term u as its bound.
 fn inside(tape: &[u32], terms: &[usize], elements: &[usize], v: ElementNo, u: TermNo) -> Said
     ensures { λ r. ⌜ asSaid r ≡ joined (pairIn (lookIn (now (tape .entry)) (now (terms .entry))) (elementsIn (now (tape .entry)) (now (elements .entry)) (v .0))) (boundOf (lookIn (now (tape .entry)) (now (terms .entry))) (lookIn (now (tape .entry)) (now (terms .entry)) (u .0))) ⌝ }
 {
     let s = pair_in(tape, terms, elements, v);
+    let Sides::Are(x, y) = s else {
+        return Said::Not;
+    };
     let l = bound(tape, terms, u);
-    join(s, l)
+    let Limit::Is(k) = l else {
+        return Said::Not;
+    };
+    Said::Is(x, y, k)
 }
 
 // The difference that the theory atom at q states.

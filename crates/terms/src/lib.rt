@@ -3,8 +3,8 @@ ghost use mathlib.Core.Path.{_≡_};
 ghost use Rattle.aspif.specs.inner.Words.{linesOf};
 ghost use Rattle.aspif.specs.inner.Kept.{Ahead};
 ghost use Rattle.terms.specs.Terms.{differences};
-ghost use Rattle.terms.specs.inner.Tables.{AllZero, heldAt};
-ghost use Rattle.terms.specs.inner.Values.{asDifferences, Roomy, Tables, RoomFor, Stored};
+ghost use Rattle.terms.specs.inner.Tables.{heldAt};
+ghost use Rattle.terms.specs.inner.Values.{asDifferences, Roomy, RoomFor, Stored};
 use crate::lines::Turn;
 use crate::lines::take_line;
 use aspif::walk::after_at;
@@ -43,39 +43,6 @@ fn store(
     }
 }
 
-// Takes the n lines of the tape in order; the tables are blank at first.
-fn take_all(
-    tape: &[u32],
-    n: usize,
-    terms: &mut [usize],
-    elements: &mut [usize],
-    seen: &mut [usize],
-    atoms: &mut [u32],
-    xs: &mut [u32],
-    ys: &mut [u32],
-    ks: &mut [i32],
-) -> Step
-    requires { ⌜ Ahead (now tape) 0 n ⌝ }
-    requires { ⌜ AllZero (now terms) × AllZero (now elements) × AllZero (now seen) ⌝ }
-    requires { ⌜ Tables (now terms) (now elements) (now seen) × Roomy (now atoms) (now xs) (now ys) (now ks) ⌝ }
-    ensures { λ r. ⌜ asDifferences r (now (atoms .exit)) (now (xs .exit)) (now (ys .exit)) (now (ks .exit)) ≡ differences (linesOf (now (tape .entry)) n) ⌝ }
-{
-    let mut p = 0;
-    let mut left = n;
-    let mut m = 0;
-    while 0 < left {
-        let s = take_line(tape, p, terms, elements, seen);
-        let r = store(s, atoms, xs, ys, ks, m);
-        let Step::Good(more) = r else {
-            return r;
-        };
-        m = more;
-        p = after_at(tape, p);
-        left -= 1;
-    }
-    Step::Good(m)
-}
-
 // The differences that the n lines of the tape state, in order, in the first places of four slices; or 6.
 pub fn collect(
     tape: &[u32],
@@ -92,15 +59,18 @@ pub fn collect(
     let mut terms = [0usize; TERM_PLACES];
     let mut elements = [0usize; ELEMENT_PLACES];
     let mut seen = [0usize; ATOM_PLACES];
-    take_all(
-        tape,
-        n,
-        &mut terms,
-        &mut elements,
-        &mut seen,
-        atoms,
-        xs,
-        ys,
-        ks,
-    )
+    let mut p = 0;
+    let mut left = n;
+    let mut m = 0;
+    while 0 < left {
+        let s = take_line(tape, p, &mut terms, &mut elements, &mut seen);
+        let r = store(s, atoms, xs, ys, ks, m);
+        let Step::Good(more) = r else {
+            return r;
+        };
+        m = more;
+        p = after_at(tape, p);
+        left -= 1;
+    }
+    Step::Good(m)
 }

@@ -4,7 +4,7 @@ ghost use mathlib.Core.List.{List};
 ghost use Prim.Native.Nat.{ℕ, _+_, _≤_};
 ghost use lib.ListN.{length};
 ghost use Rattle.faults.specs.Answer.{refused};
-ghost use Rattle.faults.specs.inner.Places.{termPlaces, elementPlaces, atomPlaces};
+ghost use Rattle.faults.specs.inner.Places.{termPlaces, elementPlaces, atomPlaces, farPlace};
 ghost use Rattle.aspif.specs.Statements.{theoryIn};
 ghost use Rattle.aspif.specs.Grammar.{integerOf};
 ghost use Rattle.aspif.specs.inner.Words.{word, wordsFrom, saysAt};
@@ -79,7 +79,7 @@ fn role_of(kind: u32) -> Role
 
 // Whether the n terms from `from` on are all defined.
 fn all_known(tape: &[u32], from: usize, n: u32, terms: &[usize]) -> bool
-    requires { ⌜ from ≤ 4611686018427387904 ⌝ }
+    requires { ⌜ from ≤ farPlace ⌝ }
     ensures { λ r. ⌜ r ≡ allDefined (lookIn (now (tape .entry)) (now (terms .entry))) (wordsFrom (now (tape .entry)) from n) ⌝ }
 {
     let mut left = n;

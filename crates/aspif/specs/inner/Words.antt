@@ -8,7 +8,7 @@ use Prim.Native.Nat.{ℕ, zero, suc, _+_, _*_}
 use mathlib.Core.List.{List, [], _∷_, _++_, map}
 use lib.Dec.{eqb}
 use lib.IntN.{ℤ, pos, negsuc}
-use lib.ListN.{length, getD}
+use lib.ListN.{getD}
 use Rattle.basics.specs.Bools.{pick}
 use Rattle.fields.specs.inner.Tape.{listed}
 use Rattle.aspif.specs.Statements.{Literal, positive, negated, Head, empty, single, choice, Body, normal, num, str, comp, elem, unguarded, guard, Theory, defines, collects, states, Statement, rule, output, theory, comment, Line}

@@ -72,4 +72,25 @@ returns-3 : tie.Need-returns-3
 returns-3 c = stored-refused _ _ _ _ (c .before .s2 .given .1)
 
 pub store-spec : {M : Type 1} → statement M
-store-spec = tie.close (tie.spec enum-told enum-known-s mul-atoms slice-write-atoms mul-xs slice-write-xs mul-ys slice-write-ys mul-k slice-set-from-k add-t13 enum-known-s-2 returns same-length same-length-2 same-length-3 same-length-4 returns-2 returns-3)
+store-spec =
+    tie.close
+    (tie.spec
+    enum-told
+    enum-known-s
+    mul-atoms
+    slice-write-atoms
+    mul-xs
+    slice-write-xs
+    mul-ys
+    slice-write-ys
+    mul-k
+    slice-set-from-k
+    add-t13
+    enum-known-s-2
+    returns
+    same-length
+    same-length-2
+    same-length-3
+    same-length-4
+    returns-2
+    returns-3)

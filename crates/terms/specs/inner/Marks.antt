@@ -13,8 +13,13 @@ pub record MarksThose (size : ℕ) (x : List ℕ) (f : ℕ → Bool) : Type 0 wh
   pub places : length x ≡ size
   pub each : (n : ℕ) → n < size → isMarked x n ≡ f n
 
+-- what f makes of each number's mark in x is its mark in y
+pub record Remarked (x y : List ℕ) (f : Bool → ℕ → Bool) : Type 0 where
+  pub each : (n : ℕ) → n < length x → isMarked y n ≡ f (isMarked x n) n
+
 -- ---- of a list of differences
 
+-- their atoms, their x and their y
 abbrev pub atomsIn : List Stated → List ℕ
 atomsIn ds = map (λ (s : Stated). s .atom) ds
 

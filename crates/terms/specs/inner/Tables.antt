@@ -58,23 +58,29 @@ elementOf (some (collects v e)) = e
 elementOf (some (states a p vs g)) = elem [] []
 elementOf none = elem [] []
 
+-- the term of an entry
 unfoldable pub termOn : List ℕ → (entry : ℕ) → Option Term
 termOn t zero = none
 termOn t (suc q) = some (termOf (theoryIn (saysAt t q)))
 
+-- the element of an entry
 unfoldable pub elementOn : List ℕ → (entry : ℕ) → Option Element
 elementOn t zero = none
 elementOn t (suc q) = some (elementOf (theoryIn (saysAt t q)))
 
+-- what a table of terms says of a number
 unfoldable pub lookIn : List ℕ → (table : List ℕ) → ℕ → Option Term
 lookIn t terms u = termOn t (word terms u)
 
+-- what a table of elements says of a number
 unfoldable pub elementsIn : List ℕ → (table : List ℕ) → ℕ → Option Element
 elementsIn t elements v = elementOn t (word elements v)
 
+-- an atom is entered
 unfoldable pub takenIn : (table : List ℕ) → ℕ → Bool
 takenIn seen a = not (eqb (word seen a) 0)
 
+-- what three tables say
 unfoldable pub envOf : List ℕ → (terms elements seen : List ℕ) → Env
 envOf t terms elements seen =
     record { terms = lookIn t terms; elements = elementsIn t elements; taken = takenIn seen }
@@ -105,12 +111,14 @@ entered (x ∷ l) = pick (eqb x 0) 0 1 + entered l
 abbrev pub changed : {A : Type 0} → (ℕ → A) → ℕ → A → ℕ → A
 changed f i a j = pick (eqb j i) a (f j)
 
+-- what was known, and what a statement adds
 unfoldable pub add : Env → Option Theory → Env
 add env (some (defines u x)) = record { terms = changed (env .terms) u (some x); elements = env .elements; taken = env .taken }
 add env (some (collects v e)) = record { terms = env .terms; elements = changed (env .elements) v (some e); taken = env .taken }
 add env (some (states a p vs g)) = record { terms = env .terms; elements = env .elements; taken = changed (env .taken) a true }
 add env none = env
 
+-- the differences that lines state, behind what is known; or 6 at the first that is faulty
 unfoldable pub walk : Env → List Line → Answer (List Stated)
 walk env [] = got []
 walk env (l ∷ ls) =
@@ -120,6 +128,7 @@ walk env (l ∷ ls) =
 
 -- ---- the differences that four slices hold
 
+-- the difference in the places i of them
 abbrev pub heldAt : (atoms xs ys : List ℕ) → List ℤ → ℕ → Stated
 heldAt atoms xs ys ks i = record { atom = word atoms i; says = record { x = word xs i; y = word ys i; k = getD ks i (pos 0) } }
 

@@ -24,14 +24,17 @@ use Rattle.terms.specs.declared.difference.Sides.the-variants as sides
 use Rattle.terms.specs.declared.difference.Said.the-variants as said
 use Rattle.terms.specs.declared.lines.Turn.the-variants as turn
 
+-- a bound, or none
 abbrev pub asLimit : Limit → Option ℤ
 asLimit (limit.Is k) = some k
 asLimit limit.Not = none
 
+-- two sides, or none
 abbrev pub asSides : Sides → Option Pair
 asSides (sides.Are x y) = some (record { x = x .0; y = y .0 })
 asSides sides.Not = none
 
+-- a difference, or none
 abbrev pub asSaid : Said → Option Diff
 asSaid (said.Is x y k) = some (record { x = x .0; y = y .0; k = k })
 asSaid said.Not = none

@@ -1,11 +1,11 @@
 -- `aspif::lines::lines` meets its contract: with each turn what is left to read gives the whole answer, and the tape has the words
 -- of the lines so far (Turns). Assumes nothing.
-use Prim.Native.Nat.{ℕ, _≤_, _<_}
+use Prim.Native.Nat.{_≤_, _<_}
 use mathlib.Core.Path.{_≡_, refl, sym, _∙_}
 use native.Mathlib.Omega.{arith}
 use borrow.Author.Needs.{needs}
 use lib.Dec.{lit<}
-use lib.ListN.{length, length-set}
+use lib.ListN.{length}
 use Rattle.fields.specs.Fields.{byteAt}
 use Rattle.fields.proofs.Naturals.{ten-far}
 use Rattle.fields.proofs.Readers.{by-grammar, reads-ends, lineEnd-reads, natural-reads}

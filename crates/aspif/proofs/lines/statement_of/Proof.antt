@@ -1,7 +1,6 @@
 -- `aspif::lines::statement_of` meets its contract. Assumes nothing.
 use borrow.Author.Needs.{needs}
 use borrow.Author.Tests.{eq-eqb, ne-eqb}
-use native.Mathlib.Omega.{arith}
 use Rattle.fields.specs.inner.Tape.{onTape}
 use Rattle.aspif.specs.Grammar.{statementOf}
 use Rattle.aspif.proofs.lines.statement_of.Statement.{statement}

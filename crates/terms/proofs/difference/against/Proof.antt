@@ -29,4 +29,14 @@ returns-3 : tie.Need-returns-3
 returns-3 c = against-is _ _ _ _ (c .before .before .before .before .before .term-entry .ensures) (c .before .before .before .before .if1 .left) _ (c .before .before .before .word-at .ensures .0) _ _ (c .before .before .if2 .left) (c .before .word-at2 .ensures .0) (c .before .word-at2 .ensures .1) (c .negated .ensures)
 
 pub against-spec : {M : Type 1} → statement M
-against-spec = tie.close (tie.spec term-entry-requires returns sub-q word-at-requires returns-2 word-at-requires-2 negated-requires returns-3)
+against-spec =
+    tie.close
+    (tie.spec
+    term-entry-requires
+    returns
+    sub-q
+    word-at-requires
+    returns-2
+    word-at-requires-2
+    negated-requires
+    returns-3)

@@ -43,4 +43,18 @@ returns-4 : tie.Need-returns-4
 returns-4 c = c .against .ensures ∙ bound-minus _ _ _ _ (c .before .before .before .before .before .before .before .term-entry .ensures) _ _ (c .before .before .before .minus-of .ensures) (not-false _ (c .before .before .if3 .left)) (c .before .term-at .ensures)
 
 pub bound-spec : {M : Type 1} → statement M
-bound-spec = tie.close (tie.spec term-entry-requires returns sub-q word-at-requires word-at-requires-2 signed-requires returns-2 minus-of-requires returns-3 term-at-requires against-requires returns-4)
+bound-spec =
+    tie.close
+    (tie.spec
+    term-entry-requires
+    returns
+    sub-q
+    word-at-requires
+    word-at-requires-2
+    signed-requires
+    returns-2
+    minus-of-requires
+    returns-3
+    term-at-requires
+    against-requires
+    returns-4)

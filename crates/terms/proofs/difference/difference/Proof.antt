@@ -55,4 +55,22 @@ returns-5 : tie.Need-returns-5
 returns-5 c = c .inside .ensures ∙ diff-is _ _ _ _ _ (c .before .before .before .before .before .before .before .before .before .before .before .before .before .before .word-at .ensures .0) (c .before .before .before .before .before .before .before .before .before .before .before .before .before .if1 .left) _ (c .before .before .before .before .before .before .before .before .before .before .before .before .word-at2 .ensures .0) (c .before .before .before .before .before .before .before .before .before .before .before .if2 .left) _ (c .before .before .before .before .before .before .before .before .before .before .term-at .ensures) _ (c .before .before .before .before .before .before .before .before .named .ensures) (not-false _ (c .before .before .before .before .before .before .before .if3 .left)) _ (c .before .before .before .before .before .before .term-at2 .ensures) _ (c .before .before .before .before .named2 .ensures) _ _ (not-false _ (c .before .before .before .if4 .left)) (c .before .before .element-at .ensures) (c .before .term-at3 .ensures)
 
 pub difference-spec : {M : Type 1} → statement M
-difference-spec = tie.close (tie.spec word-at-requires returns word-at-requires-2 returns-2 term-at-requires slice-aggregate-named named-requires returns-3 term-at-requires-2 slice-aggregate-named-2 named-requires-2 returns-4 element-at-requires term-at-requires-3 inside-requires returns-5)
+difference-spec =
+    tie.close
+    (tie.spec
+    word-at-requires
+    returns
+    word-at-requires-2
+    returns-2
+    term-at-requires
+    slice-aggregate-named
+    named-requires
+    returns-3
+    term-at-requires-2
+    slice-aggregate-named-2
+    named-requires-2
+    returns-4
+    element-at-requires
+    term-at-requires-3
+    inside-requires
+    returns-5)

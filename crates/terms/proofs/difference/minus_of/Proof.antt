@@ -34,4 +34,15 @@ returns-4 : tie.Need-returns-4
 returns-4 c = c .is-minus .ensures ∙ minus-is _ (lookIn (c .before .before .before .before .before .before .before .before .before .args .tape .now) (c .before .before .before .before .before .before .before .before .before .args .terms .now)) _ _ (c .before .before .before .before .before .before .if1 .left) _ (c .before .before .before .before .before .word-at .ensures .0) (c .before .before .before .before .if2 .left) _ (c .before .before .before .word-at2 .ensures .0) _ (c .before .before .if3 .left) (c .before .word-at3 .ensures .0)
 
 pub minus-of-spec : {M : Type 1} → statement M
-minus-of-spec = tie.close (tie.spec returns sub-q word-at-requires returns-2 word-at-requires-2 returns-3 word-at-requires-3 is-minus-requires returns-4)
+minus-of-spec =
+    tie.close
+    (tie.spec
+    returns
+    sub-q
+    word-at-requires
+    returns-2
+    word-at-requires-2
+    returns-3
+    word-at-requires-3
+    is-minus-requires
+    returns-4)

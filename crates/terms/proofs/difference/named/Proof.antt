@@ -30,4 +30,14 @@ returns-3 : tie.Need-returns-3
 returns-3 c = c .same .ensures ∙ string-is _ _ _ _ (c .before .before .before .before .before .term-entry .ensures) (c .before .before .before .before .if1 .left) _ (c .before .before .before .word-at .ensures .0) _ _ (c .before .before .if2 .left) (c .before .word-at2 .ensures .0)
 
 pub named-spec : {M : Type 1} → statement M
-named-spec = tie.close (tie.spec term-entry-requires returns sub-q word-at-requires returns-2 word-at-requires-2 same-requires returns-3)
+named-spec =
+    tie.close
+    (tie.spec
+    term-entry-requires
+    returns
+    sub-q
+    word-at-requires
+    returns-2
+    word-at-requires-2
+    same-requires
+    returns-3)

@@ -29,4 +29,13 @@ returns-2 : tie.Need-returns-2
 returns-2 c = pair-is _ _ _ _ (c .before .before .before .before .term-entry .ensures) _ _ _ (c .before .before .before .minus-of .ensures) (not-false _ (c .before .before .if1 .left)) (c .before .term-at .ensures) (c .term-at2 .ensures)
 
 pub pair-spec : {M : Type 1} → statement M
-pair-spec = tie.close (tie.spec term-entry-requires minus-of-requires returns sub-q term-at-requires term-at-requires-2 returns-2)
+pair-spec =
+    tie.close
+    (tie.spec
+    term-entry-requires
+    minus-of-requires
+    returns
+    sub-q
+    term-at-requires
+    term-at-requires-2
+    returns-2)

@@ -43,4 +43,18 @@ returns-5 : tie.Need-returns-5
 returns-5 c = c .pair .ensures ∙ in-is _ _ _ _ (c .before .before .before .before .before .before .before .before .before .element-entry .ensures) (lookIn (c .before .before .before .before .before .before .before .before .before .before .before .before .before .args .tape .now) (c .before .before .before .before .before .before .before .before .before .before .before .before .before .args .terms .now)) (c .before .before .before .before .before .before .before .before .if1 .left) _ (c .before .before .before .before .before .before .before .word-at .ensures .0) (c .before .before .before .before .before .before .if2 .left) _ (c .before .before .before .before .before .word-at2 .ensures .0) (c .before .before .before .before .if3 .left) _ (c .before .before .before .word-at3 .ensures .0) _ (c .before .before .if4 .left) (c .before .term-at .ensures)
 
 pub pair-in-spec : {M : Type 1} → statement M
-pair-in-spec = tie.close (tie.spec element-entry-requires returns sub-q word-at-requires returns-2 word-at-requires-2 returns-3 word-at-requires-3 returns-4 term-at-requires pair-requires returns-5)
+pair-in-spec =
+    tie.close
+    (tie.spec
+    element-entry-requires
+    returns
+    sub-q
+    word-at-requires
+    returns-2
+    word-at-requires-2
+    returns-3
+    word-at-requires-3
+    returns-4
+    term-at-requires
+    pair-requires
+    returns-5)

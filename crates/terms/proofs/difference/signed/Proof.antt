@@ -1,20 +1,20 @@
 -- `signed`: an even word is its half, an odd one its half negated.
-use Rattle.terms.proofs.Signs.{even-is, odd-is}
+use Rattle.terms.proofs.Signs.{even-is, odd-fits, odd-is}
 use borrow.Author.Needs.{needs}
 use Rattle.terms.proofs.difference.signed.Statement.{statement}
 use Rattle.terms.proofs.difference.signed.Tie as tie
 
-whole-requires : tie.Need-whole-requires
-whole-requires c κs = search needs
+cast-k : tie.Need-cast-k
+cast-k c = search needs
 
 returns : tie.Need-returns
-returns c = even-is _ _ (c .before .before .fits .w .fits) (c .before .if1 .taken) (c .whole .ensures)
+returns c = even-is _ (c .before .fits .w .fits) (c .if1 .taken)
 
-minus-requires : tie.Need-minus-requires
-minus-requires c κs = search needs
+sub-result : tie.Need-sub-result
+sub-result c = odd-fits _ (c .before .fits .w .fits)
 
 returns-2 : tie.Need-returns-2
-returns-2 c = odd-is _ _ (c .before .before .fits .w .fits) (c .before .if1 .left) (c .minus .ensures)
+returns-2 c = odd-is _ (c .before .fits .w .fits) (c .if1 .left)
 
 pub signed-spec : {M : Type 1} → statement M
-signed-spec = tie.close (tie.spec whole-requires returns minus-requires returns-2)
+signed-spec = tie.close (tie.spec cast-k returns sub-result returns-2)

@@ -26,4 +26,13 @@ returns-2 : tie.Need-returns-2
 returns-2 c = λ seen. element-uses _ _ _ seen _ (c .before .before .before .before .before .before .before .before .pre .1) _ _ (c .before .before .before .before .element-at .ensures) (c .before .before .before .element-entry .ensures) _ _ (c .before .before .if1 .left) (c .before .word-at .ensures .0) (c .all-known .ensures)
 
 pub bad-element-spec : {M : Type 1} → statement M
-bad-element-spec = tie.close (tie.spec element-at-requires element-entry-requires returns word-at-requires add-from all-known-requires returns-2)
+bad-element-spec =
+    tie.close
+    (tie.spec
+    element-at-requires
+    element-entry-requires
+    returns
+    word-at-requires
+    add-from
+    all-known-requires
+    returns-2)

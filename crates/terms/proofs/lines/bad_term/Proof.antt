@@ -1,5 +1,4 @@
 -- `bad_term`: twice, or a use that is not defined; one law for each way out.
-use mathlib.Core.Path.{_∙_}
 use borrow.Author.Tests.{not-true, not-false}
 use Rattle.terms.proofs.Uses.{term-twice, term-fine, term-functor, term-args}
 use borrow.Author.Needs.{needs}
@@ -43,4 +42,18 @@ returns-4 : tie.Need-returns-4
 returns-4 c = λ els seen. term-args _ _ els seen _ (c .before .before .before .before .before .before .before .before .before .before .before .before .pre .1) _ _ (c .before .before .before .before .before .before .before .before .before .term-at .ensures) (c .before .before .before .before .before .before .before .before .term-entry .ensures) (c .before .before .before .before .before .before .before .if1 .left) _ (c .before .before .before .before .before .before .word-at .ensures .0) (c .before .before .before .before .before .if2 .left) _ (c .before .before .before .before .word-at2 .ensures .0) _ (c .before .before .before .functor-known .ensures) _ _ (not-false _ (c .before .before .if3 .left)) (c .before .word-at3 .ensures .0) (c .all-known .ensures)
 
 pub bad-term-spec : {M : Type 1} → statement M
-bad-term-spec = tie.close (tie.spec term-at-requires term-entry-requires returns word-at-requires returns-2 word-at-requires-2 functor-known-requires returns-3 word-at-requires-3 add-from all-known-requires returns-4)
+bad-term-spec =
+    tie.close
+    (tie.spec
+    term-at-requires
+    term-entry-requires
+    returns
+    word-at-requires
+    returns-2
+    word-at-requires-2
+    functor-known-requires
+    returns-3
+    word-at-requires-3
+    add-from
+    all-known-requires
+    returns-4)

@@ -1,7 +1,5 @@
 -- `take_atom`: a second statement and one that is no difference are refused; else the atom is entered.
 use native.Mathlib.Omega.{arith}
-use mir.Syntax.{w32}
-use mir.Val.{toZ, ofZ}
 use Rattle.terms.proofs.Signs.{back}
 use Rattle.terms.proofs.ByKind.{atom-room}
 use Rattle.terms.proofs.Turns.{turn-refused, atom-second, atom-none, atom-turned}
@@ -63,4 +61,22 @@ returns-3 c =
     atom-turned _ _ _ _ _ (pre .1) _ _ _ (record { x = d .0 .0 .0; y = d .0 .1 .0 .0; k = k }) _ a (c .before .before .before .before .before .before .before .before .before .atom-entry .ensures) (c .before .before .before .before .before .before .before .before .if1 .left) (rw (d .1) at (c .before .before .before .before .before .before .before .difference .ensures)) (omega (arith, a, pre .2, atom-room (pre .0) (pre .1))) (c .before .before .put-atom .ensures) (rw (back {z = k} (record { sfits = c .before .before .before .before .known-told .given .1 .1 .0 .1 })))
 
 pub take-atom-spec : {M : Type 1} → statement M
-take-atom-spec = tie.close (tie.spec add-q atom-at-requires atom-entry-requires refuse-requires same-length returns difference-requires enum-known-d enum-told refuse-requires-2 same-length-2 returns-2 add-mark put-atom-requires same-length-3 returns-3)
+take-atom-spec =
+    tie.close
+    (tie.spec
+    add-q
+    atom-at-requires
+    atom-entry-requires
+    refuse-requires
+    same-length
+    returns
+    difference-requires
+    enum-known-d
+    enum-told
+    refuse-requires-2
+    same-length-2
+    returns-2
+    add-mark
+    put-atom-requires
+    same-length-3
+    returns-3)

@@ -38,4 +38,16 @@ returns-2 : tie.Need-returns-2
 returns-2 c = λ seen. element-turned _ _ _ seen _ (c .before .before .before .before .before .before .before .before .before .before .before .pre .1) _ _ (sym (c .before .before .before .before .before .if1 .left) ∙ c .before .before .before .before .before .before .bad-element .ensures seen) (c .before .before .before .before .element-at .ensures) (omega (arith, c .before .before .before .before .element-at .ensures, c .before .before .before .before .before .before .before .before .before .before .before .pre .2, element-room (c .before .before .before .before .before .before .before .before .before .before .before .pre .0) (c .before .before .before .before .before .before .before .before .before .before .before .pre .1))) (c .before .before .put-element .ensures)
 
 pub take-element-spec : {M : Type 1} → statement M
-take-element-spec = tie.close (tie.spec add-q bad-element-requires refuse-requires same-length returns element-at-requires add-mark put-element-requires same-length-2 returns-2)
+take-element-spec =
+    tie.close
+    (tie.spec
+    add-q
+    bad-element-requires
+    refuse-requires
+    same-length
+    returns
+    element-at-requires
+    add-mark
+    put-element-requires
+    same-length-2
+    returns-2)

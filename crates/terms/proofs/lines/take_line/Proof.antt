@@ -63,4 +63,25 @@ returns-4 : tie.Need-returns-4
 returns-4 c = other-turned _ _ _ _ _ (role-is _ _ _ _ _ (c .before .before .before .word-at .ensures .0) (c .before .before .role-of .ensures) (c .enum-told4 .given .1))
 
 pub take-line-spec : {M : Type 1} → statement M
-take-line-spec = tie.close (tie.spec word-at-requires role-of-requires enum-told take-term-requires enum-told-2 take-element-requires enum-told-3 take-atom-requires enum-told-4 same-length returns same-length-2 same-length-3 returns-2 same-length-4 same-length-5 same-length-6 returns-3 returns-4)
+take-line-spec =
+    tie.close
+    (tie.spec
+    word-at-requires
+    role-of-requires
+    enum-told
+    take-term-requires
+    enum-told-2
+    take-element-requires
+    enum-told-3
+    take-atom-requires
+    enum-told-4
+    same-length
+    returns
+    same-length-2
+    same-length-3
+    returns-2
+    same-length-4
+    same-length-5
+    same-length-6
+    returns-3
+    returns-4)

@@ -38,4 +38,16 @@ returns-2 : tie.Need-returns-2
 returns-2 c = λ els seen. term-turned _ _ els seen _ (c .before .before .before .before .before .before .before .before .before .before .pre .1) _ _ (sym (c .before .before .before .before .before .if1 .left) ∙ c .before .before .before .before .before .before .bad-term .ensures els seen) (c .before .before .before .before .term-at .ensures) (omega (arith, c .before .before .before .before .term-at .ensures, c .before .before .before .before .before .before .before .before .before .before .pre .2, term-room (c .before .before .before .before .before .before .before .before .before .before .pre .0) (c .before .before .before .before .before .before .before .before .before .before .pre .1))) (c .before .before .put-term .ensures)
 
 pub take-term-spec : {M : Type 1} → statement M
-take-term-spec = tie.close (tie.spec add-q bad-term-requires refuse-requires same-length returns term-at-requires add-mark put-term-requires same-length-2 returns-2)
+take-term-spec =
+    tie.close
+    (tie.spec
+    add-q
+    bad-term-requires
+    refuse-requires
+    same-length
+    returns
+    term-at-requires
+    add-mark
+    put-term-requires
+    same-length-2
+    returns-2)
