@@ -9,7 +9,7 @@ use native.Mathlib.Omega.{arith}
 use lib.ListN.{length, take, drop, length-drop, List·getD-eq-default}
 use Rattle.basics.specs.Bools.{pick}
 use Rattle.fields.specs.Reading.{found, fault}
-use Rattle.fields.specs.Fields.{field, isSeparator, isForbidden, plain, value, isNatural, natural, byteAt, byte}
+use Rattle.fields.specs.Fields.{field, isSeparator, isForbidden, restLength, value, isNatural, natural, byteAt, byte}
 use Rattle.fields.proofs.Runs.{upTo-length, upTo-take}
 use Rattle.fields.proofs.Decimal.{natural-empty, two-digits}
 
@@ -54,9 +54,9 @@ module _ (s : List ℕ) (at e : ℕ) (ends : e ≡ at + length (field s at)) whe
         rw (h, le-leb (value 0 (field s at)) most (omega arith), w, ends)
 
 -- the bytes of a comment lie within the text
-pub plain-within : (s : List ℕ) (at : ℕ) → at ≤ length s → at + plain s at ≤ length s
-unfolding plain
-plain-within s at h = omega (arith, upTo-length isForbidden (drop at s), length-drop at s)
+pub rest-within : (s : List ℕ) (at : ℕ) → at ≤ length s → at + restLength s at ≤ length s
+unfolding restLength
+rest-within s at h = omega (arith, upTo-length isForbidden (drop at s), length-drop at s)
 
 pub byte-past : (s : List ℕ) (at : ℕ) → length s ≤ at → 0 ≡ byteAt s at
 unfolding byteAt

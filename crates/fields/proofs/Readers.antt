@@ -11,7 +11,7 @@ use Rattle.basics.specs.Bools.{pick}
 use Rattle.basics.specs.Lists.{All}
 use Rattle.faults.specs.Limits.{lastAtom, lastTerm, lastElement, mostCount}
 use Rattle.fields.specs.Reading.{Reading, found, fault, Reader, andThen, placed}
-use Rattle.fields.specs.Fields.{space, feed, minusSign, byteAt, byte, bytes, lineEnd, textEnd, allPositive, field, isNatural, value, natural, next, nextNatural, naturalThen, negative, integer, nextInteger, literal, atom, nextAtom, nextTerm, nextElement, char, item, items, counted, string, plain, rest}
+use Rattle.fields.specs.Fields.{space, feed, minusSign, byteAt, byte, bytes, lineEnd, textEnd, allPositive, field, isNatural, value, natural, next, nextNatural, naturalThen, negative, integer, nextInteger, literal, atom, nextAtom, nextTerm, nextElement, char, item, items, counted, string, restLength, rest}
 use Rattle.fields.specs.inner.Kept.{IsAtom, Fits, ByteOf, ItemKept}
 use Rattle.fields.specs.declared.Item.{Item}
 use Rattle.fields.proofs.Decimal.{natural-some}
@@ -272,4 +272,4 @@ string-reads s at =
 
 pub rest-reads : (s : List ℕ) (at : ℕ) → Reads (All (ByteOf s)) s at 0 (rest s at)
 unfolding rest
-rest-reads s at = reads-so (λ bs h. h .0) (omega arith) (items-reads of.Char (plain s at) s at)
+rest-reads s at = reads-so (λ bs h. h .0) (omega arith) (items-reads of.Char (restLength s at) s at)

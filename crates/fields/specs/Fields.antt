@@ -195,9 +195,9 @@ string = do
   items of.Char n
 
 -- how many bytes stand before the next byte that is forbidden, or the end
-unfoldable pub plain : List ℕ → ℕ → ℕ
-plain s at = length (upTo isForbidden (drop at s))
+unfoldable pub restLength : List ℕ → ℕ → ℕ
+restLength s at = length (upTo isForbidden (drop at s))
 
 -- anything up to the line end
 unfoldable pub rest : Reader (List ℕ)
-rest s at = items of.Char (plain s at) s at
+rest s at = items of.Char (restLength s at) s at

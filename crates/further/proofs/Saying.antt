@@ -12,7 +12,7 @@ use Rattle.basics.specs.Lists.{among}
 use Rattle.basics.proofs.Bitmaps.{first-in}
 use Rattle.aspif.specs.Statements.{comp, elem, guard, defines, collects, states, Statement, theory, Line, theoryIn}
 use Rattle.diffs.specs.Diff.{Diff}
-use Rattle.terms.specs.Says.{termIn, term, elementIn, elementAt, Bound, plain, negated, Difference, Says, Name}
+use Rattle.terms.specs.Says.{termIn, term, elementIn, elementAt, Bound, direct, underMinus, Difference, Says, Name}
 use Rattle.judge.specs.Plan.{Ready, holds, Held, InForce}
 use Rattle.further.specs.Later.{functor, terms, elements, Unused, Added, a-term, an-element, an-atom, a-fact, Grown, done, keep, add, Later}
 use Rattle.further.proofs.Lists.{not-true, not-both, rest-in, Has}
@@ -73,16 +73,16 @@ module _ (P : Statement → Type 0) where
 module _ (ls ms : List Line)
     (sameT : (u : ℕ) → Used terms ls u → term ms u ≡ term ls u) (sameE : (v : ℕ) → Used elements ls v → elementAt ms v ≡ elementAt ls v) where
   bound-on : (u : ℕ) (k : ℤ) → Used terms ls u → Bound ls u k → Bound ms u k
-  bound-on u k h (plain e) = plain (sameT u h ∙ e)
-  bound-on u k h (negated t n j e f g i) =
-      negated t n j (sameT u h ∙ e) (sameT t (argument-used ls u (pos t) (n ∷ []) e t (first-in t (n ∷ []))) ∙ f)
+  bound-on u k h (direct e) = direct (sameT u h ∙ e)
+  bound-on u k h (underMinus t n j e f g i) =
+      underMinus t n j (sameT u h ∙ e) (sameT t (argument-used ls u (pos t) (n ∷ []) e t (first-in t (n ∷ []))) ∙ f)
       (sameT n (argument-used ls u (pos t) (n ∷ []) e n (rest-in n t (n ∷ []) (first-in n []))) ∙ g) i
 
   bound-back : (u : ℕ) (k : ℤ) → Used terms ls u → Bound ms u k → Bound ls u k
-  bound-back u k h (plain e) = plain (sym (sameT u h) ∙ e)
-  bound-back u k h (negated t n j e f g i) =
+  bound-back u k h (direct e) = direct (sym (sameT u h) ∙ e)
+  bound-back u k h (underMinus t n j e f g i) =
       let c = sym (sameT u h) ∙ e in
-      negated t n j c (sym (sameT t (argument-used ls u (pos t) (n ∷ []) c t (first-in t (n ∷ [])))) ∙ f)
+      underMinus t n j c (sym (sameT t (argument-used ls u (pos t) (n ∷ []) c t (first-in t (n ∷ [])))) ∙ f)
       (sym (sameT n (argument-used ls u (pos t) (n ∷ []) c n (rest-in n t (n ∷ []) (first-in n [])))) ∙ g) i
 
   module _ (a p : ℕ) (vs : List ℕ) (g u : ℕ) (line : Has ls (theory (states a p vs (guard g u)))) (d : Diff) where

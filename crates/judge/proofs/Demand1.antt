@@ -8,7 +8,7 @@ use lib.ListN.{length, drop}
 use lib.Seq.{drop-append-seam}
 use Rattle.faults.specs.Answer.{Answer, got, refused}
 use Rattle.judge.specs.Plan.{Asked, Rooms}
-use Rattle.judge.specs.Judged.{acceptance, refusal, Result, refusing, accepting, cyclic, timed, unfounded, founded, broken, whole as sound, unreadable, ready, table}
+use Rattle.judge.specs.Judged.{acceptance, refusal, Result, refusing, accepting, cyclic, timed, unfounded, founded, breaks, sound, unreadable, ready, table}
 use Rattle.judge.specs.Demand1.{Left, Demand1}
 
 module _ (a : Asked) (b : Rooms) where
@@ -30,7 +30,7 @@ module _ (a : Asked) (b : Rooms) where
 -- demand 1
 pub demand-1 : Demand1
 demand-1 a b r (unreadable k p e f) = rw f (of-refusal a b k p)
-demand-1 a b r (ready q e (broken p f g)) = rw g (of-refusal a b 8 p)
+demand-1 a b r (ready q e (breaks p f g)) = rw g (of-refusal a b 8 p)
 demand-1 a b r (ready q e (sound f (unfounded c g h))) = rw h (of-refusal a b 9 c)
 demand-1 a b r (ready q e (sound f (founded g (cyclic cs h i)))) = record {
   refused = λ k p v. ap (λ (s : Result). s .rooms .room) i;

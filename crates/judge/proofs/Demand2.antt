@@ -16,7 +16,7 @@ use Rattle.stable.proofs.Stability.{stable-answers}
 use Rattle.timetable.specs.Table.{tableOf}
 use Rattle.timetable.specs.Times.{timeOf}
 use Rattle.judge.specs.Plan.{Asked, Rooms, Ready, holds, readable, InForce}
-use Rattle.judge.specs.Judged.{acceptance, Result, refusing, accepting, cyclic, timed, unfounded, founded, Weighed, broken, whole as sound, Judges, unreadable, ready}
+use Rattle.judge.specs.Judged.{acceptance, Result, refusing, accepting, cyclic, timed, unfounded, founded, Weighed, breaks, sound, Judges, unreadable, ready}
 use Rattle.judge.specs.Demand2.{StableModel, Timeable, NoneBroken, BrokenAt, NoneUnfounded, UnfoundedAt, Accepted, Timetable, ShowsCycle, Otherwise, Demand2}
 use Rattle.judge.proofs.Ascent.{of-member}
 use Rattle.judge.proofs.Judgements.{verdicts, numbers, places, lengths, not-accepted}
@@ -47,7 +47,7 @@ weighed {b = b} {q} {r} e (ready v f g) = let i : v ≡ q = (cc) in subst (λ (u
 
 module _ (a : Asked) (b : Rooms) (q : Ready) (r : Result) (e : readable a b ≡ got q) where
   ended : Weighed q b r → Ending q b r
-  ended (broken p f g) = at-eight p f g
+  ended (breaks p f g) = at-eight p f g
   ended (sound f (unfounded c g h)) = at-nine f c g h
   ended (sound f (founded g (cyclic cs n h))) = at-ten f g (record { list = cs; negative = n; is = h })
   ended (sound f (founded g (timed u h ns i j))) =

@@ -24,7 +24,7 @@ use Rattle.terms.specs.Terms.{Stated, statedBy, known, faulty, more, difference
 use Rattle.stable.specs.Meaning.{Atoms, broken, brokenAt, firstBroken}
 use Rattle.timetable.proofs.RoundTrip.{longest}
 use Rattle.judge.specs.Plan.{Asked, Rooms, Ready, ready, lent, legible, pair, readable, InForce}
-use Rattle.judge.specs.Judged.{Each, NegativeCycle, cyclic, timed, unfounded, founded, broken as broken-rule, whole as sound, unreadable, ready as read-plan}
+use Rattle.judge.specs.Judged.{Each, NegativeCycle, cyclic, timed, unfounded, founded, breaks, sound, unreadable, ready as read-plan}
 use Rattle.judge.specs.Bounds.{Bounds}
 use Rattle.judge.proofs.Ascent.{of-member}
 use Rattle.judge.proofs.Readable.{read}
@@ -141,7 +141,7 @@ module _ (a : Asked) (b : Rooms) (q : Ready) (e : readable a b ≡ got q) where
 -- every number of a verdict is within its bound
 pub places-bounded : Bounds
 places-bounded a b r (unreadable k p e f) = rw f (readable-place a b k p e)
-places-bounded a b r (read-plan q e (broken-rule p f g)) =
+places-bounded a b r (read-plan q e (breaks p f g)) =
     let t = read a b q e in
     let l = broken-place (length (a .text)) _ (q .lines) p (statements-placed (a .text) (q .lines) (t .lines)) f in
     rw g (omega (arith, l, t .short))

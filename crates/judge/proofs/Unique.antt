@@ -21,7 +21,7 @@ use Rattle.timetable.specs.Times.{asTime, timeOf}
 use Rattle.timetable.specs.declared.Time.{Time}
 use Rattle.timetable.proofs.Answers.{one-time}
 use Rattle.judge.specs.Plan.{Asked, Rooms, Ready, holds, readable, InForce}
-use Rattle.judge.specs.Judged.{Judgement, acceptance, refusal, Result, refusing, showing, accepting, Each, NegativeCycle, table, Timed, cyclic, timed, Supported, unfounded, founded, Weighed, broken, whole as sound, Judges, unreadable, ready, Judged}
+use Rattle.judge.specs.Judged.{Judgement, acceptance, refusal, Result, refusing, showing, accepting, Each, NegativeCycle, table, Timed, cyclic, timed, Supported, unfounded, founded, Weighed, breaks, sound, Judges, unreadable, ready, Judged}
 use Rattle.judge.specs.Shown.{IsShown}
 use Rattle.judge.specs.Values.{asVerdict, result}
 use Rattle.judge.specs.declared.Verdict.{Verdict}
@@ -83,9 +83,9 @@ module _ (q : Ready) (b : Rooms) (r r′ : Result) where
   supported-unique (founded f e) (founded g h) = timed-unique e h
 
   weighed-unique : Weighed q b r → Weighed q b r′ → (r ≡ r′) ⊎ BothTen q b r r′
-  weighed-unique (broken p e f) (broken m g h) = let j : p ≡ m = (cc) in inl (f ∙ ap (refusing b 8) j ∙ sym h)
-  weighed-unique (broken p e f) (sound g h) = let z : _≡_ {A = ℕ} 0 1 = (cc) in absurd (omega arith)
-  weighed-unique (sound e f) (broken m g h) = let z : _≡_ {A = ℕ} 0 1 = (cc) in absurd (omega arith)
+  weighed-unique (breaks p e f) (breaks m g h) = let j : p ≡ m = (cc) in inl (f ∙ ap (refusing b 8) j ∙ sym h)
+  weighed-unique (breaks p e f) (sound g h) = let z : _≡_ {A = ℕ} 0 1 = (cc) in absurd (omega arith)
+  weighed-unique (sound e f) (breaks m g h) = let z : _≡_ {A = ℕ} 0 1 = (cc) in absurd (omega arith)
   weighed-unique (sound e f) (sound g h) = supported-unique f h
 
 judges-unique : (a : Answer Ready) (b : Rooms) (r r′ : Result) → Judges a b r → Judges a b r′ → (r ≡ r′) ⊎ ((q : Ready) × (a ≡ got q) × BothTen q b r r′)

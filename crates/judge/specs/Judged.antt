@@ -93,8 +93,8 @@ pub data Supported (q : Ready) (b : Rooms) (r : Result) : Type 0 where
 
 -- 8; or no rule is broken
 pub data Weighed (q : Ready) (b : Rooms) (r : Result) : Type 0 where
-  broken : (p : ℕ) → firstBroken (holds q) (q .lines) ≡ brokenAt p → r ≡ refusing b 8 p → Weighed q b r
-  whole : firstBroken (holds q) (q .lines) ≡ unbroken → Supported q b r → Weighed q b r
+  breaks : (p : ℕ) → firstBroken (holds q) (q .lines) ≡ brokenAt p → r ≡ refusing b 8 p → Weighed q b r
+  sound : firstBroken (holds q) (q .lines) ≡ unbroken → Supported q b r → Weighed q b r
 
 -- 1 to 7; or a readable plan
 pub data Judges (a : Answer Ready) (b : Rooms) (r : Result) : Type 0 where

@@ -19,7 +19,7 @@ use Rattle.aspif.specs.inner.Kept.{FromTo, TermWith, AllInRange}
 use Rattle.diffs.specs.Diff.{Diff}
 use Rattle.diffs.proofs.Names.{pigeon}
 use Rattle.aspif.proofs.Decoding.{TheoryIf, theory-small}
-use Rattle.terms.specs.Says.{orElse, termIn, term, Bound, plain, negated, Difference, SaysIn, Says}
+use Rattle.terms.specs.Says.{orElse, termIn, term, Bound, direct, underMinus, Difference, SaysIn, Says}
 use Rattle.terms.specs.Terms.{Stated, differences, Lists}
 use Rattle.terms.specs.inner.Tables.{SmallDiff}
 use Rattle.terms.proofs.ByKind.{Any}
@@ -48,15 +48,15 @@ small-term (l ∷ ls) u x q e = small-in (theoryIn (l .says)) u (term ls u) x (t
 
 -- ---- differences
 
--- the bounds are symmetric, so a bound negated is within them
+-- the bounds are symmetric, so a bound underMinus is within them
 opposed : (j k : ℤ) → k ≡ negℤ j → FromTo largestNumber largestNumber j → FromTo largestNumber largestNumber k
 opposed (pos zero) k e q = rw e q
 opposed (pos (suc n)) k e q = rw e q
 opposed (negsuc n) k e q = rw e q
 
 small-bound : (ls : List Line) (u : ℕ) (k : ℤ) → AllInRange ls → Bound ls u k → FromTo largestNumber largestNumber k
-small-bound ls u k q (plain e) = small-term ls u (num k) q e
-small-bound ls u k q (negated t n j a b c e) = opposed j k e (small-term ls n (num j) q c)
+small-bound ls u k q (direct e) = small-term ls u (num k) q e
+small-bound ls u k q (underMinus t n j a b c e) = opposed j k e (small-term ls n (num j) q c)
 
 small-difference : (ls : List Line) (p : ℕ) (vs : List ℕ) (g u : ℕ) (d : Diff) → AllInRange ls → Difference ls p vs g u d → SmallDiff d
 small-difference ls p vs g u d q h =

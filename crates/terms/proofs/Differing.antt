@@ -12,7 +12,7 @@ use lib.IntN.{ℤ, pos, negsuc, negℤ}
 use Rattle.basics.specs.Bools.{pick}
 use Rattle.aspif.specs.Statements.{Term, num, str, comp, Element, elem, unguarded, guard, states, Line}
 use Rattle.diffs.specs.Diff.{Diff}
-use Rattle.terms.specs.Says.{term, elementAt, diffWord, minus, atMost, Bound, plain, negated, Difference}
+use Rattle.terms.specs.Says.{term, elementAt, diffWord, minus, atMost, Bound, direct, underMinus, Difference}
 use Rattle.terms.specs.Terms.{sameBytes, isString, isMinus, opposite, boundOf, Pair, pairOf, pairIn, joined, differenceOf, known, notDifference}
 use Rattle.terms.proofs.Known.{term-append, element-append}
 
@@ -94,14 +94,14 @@ opposite-is (some (comp t us)) k h = absurd (never h)
 bound-is : (ls : List Line) (u : ℕ) (x : Option Term) (k : ℤ) → term ls u ≡ x → boundOf (term ls) x ≡ some k → Bound ls u k
 unfolding boundOf
 bound-is ls u none k e h = absurd (never h)
-bound-is ls u (some (num j)) k e h = let q : j ≡ k = cc h in plain (e ∙ rw q)
+bound-is ls u (some (num j)) k e h = let q : j ≡ k = cc h in direct (e ∙ rw q)
 bound-is ls u (some (str s)) k e h = absurd (never h)
 bound-is ls u (some (comp t [])) k e h = absurd (never h)
 bound-is ls u (some (comp t (n ∷ []))) k e h =
     let q = picked (isMinus (term ls) t) (opposite (term ls n)) k h in
     let m = minus-is (term ls) t (q .0) in
     let o = opposite-is (term ls n) k (q .1) in
-    negated (m .0) n (o .0) (rw (← m .1) e) (m .2) (o .1) (o .2)
+    underMinus (m .0) n (o .0) (rw (← m .1) e) (m .2) (o .1) (o .2)
 bound-is ls u (some (comp t (n ∷ m ∷ us))) k e h = absurd (never h)
 
 pub joined-is : (p : Option Pair) (q : Option ℤ) (d : Diff) → joined p q ≡ some d → (p ≡ some (record { x = d .x; y = d .y })) × (q ≡ some (d .k))
@@ -152,8 +152,8 @@ module _ (ls ms : List Line) where
   element-more v {x} h = element-append ls ms v ∙ rw h
 
   bound-more : {u : ℕ} {k : ℤ} → Bound ls u k → Bound (ls ++ ms) u k
-  bound-more {u} (plain h) = plain (term-more u h)
-  bound-more {u} (negated t n j a b c e) = negated t n j (term-more u a) (term-more t b) (term-more n c) e
+  bound-more {u} (direct h) = direct (term-more u h)
+  bound-more {u} (underMinus t n j a b c e) = underMinus t n j (term-more u a) (term-more t b) (term-more n c) e
 
   pub said-more : {p : ℕ} {vs : List ℕ} {g u : ℕ} {d : Diff} → Difference ls p vs g u d → Difference (ls ++ ms) p vs g u d
   said-more {p} {vs} {g} {u} {d} q =
@@ -176,10 +176,10 @@ clash : {x : Option Term} {k : ℤ} {t : ℤ} {us : List ℕ} → x ≡ some (nu
 clash {x} {k} {t} {us} a b = let z : _≡_ {A = ℕ} 0 1 = (cc) in omega arith
 
 bound-one : {ls : List Line} {u : ℕ} {j k : ℤ} → Bound ls u j → Bound ls u k → j ≡ k
-bound-one (plain a) (plain b) = (cc)
-bound-one (plain a) (negated t n i b c d e) = absurd (clash a b)
-bound-one (negated t n i b c d e) (plain a) = absurd (clash a b)
-bound-one (negated t n i b c d e) (negated t′ n′ i′ b′ c′ d′ e′) = (cc)
+bound-one (direct a) (direct b) = (cc)
+bound-one (direct a) (underMinus t n i b c d e) = absurd (clash a b)
+bound-one (underMinus t n i b c d e) (direct a) = absurd (clash a b)
+bound-one (underMinus t n i b c d e) (underMinus t′ n′ i′ b′ c′ d′ e′) = (cc)
 
 diff-eq : (d e : Diff) → d .x ≡ e .x → d .y ≡ e .y → d .k ≡ e .k → d ≡ e
 diff-eq d e a b c = go a b c
@@ -219,8 +219,8 @@ minus-found look t h = string-found minus (look t) h
 
 bound-found : (ls : List Line) (u : ℕ) (k : ℤ) → Bound ls u k → boundOf (term ls) (term ls u) ≡ some k
 unfolding boundOf opposite
-bound-found ls u k (plain h) = rw h
-bound-found ls u k (negated t n j a b c e) = rw (a, minus-found (term ls) t b, c, e)
+bound-found ls u k (direct h) = rw h
+bound-found ls u k (underMinus t n j a b c e) = rw (a, minus-found (term ls) t b, c, e)
 
 pair-found : (ls : List Line) (v w t x y : ℕ) → elementAt ls v ≡ some (elem (w ∷ []) []) → term ls w ≡ some (comp (pos t) (x ∷ y ∷ [])) → term ls t ≡ some (str minus)
     → pairIn (term ls) (elementAt ls v) ≡ some (record { x = x; y = y })

@@ -57,8 +57,8 @@ atMost = 60 ∷ 61 ∷ []
 
 -- k is the bound that the term u gives: a numeric term, or `-` with one numeric argument, then that number negated
 pub data Bound (ls : List Line) (u : ℕ) (k : ℤ) : Type 0 where
-  plain : term ls u ≡ some (num k) → Bound ls u k
-  negated : (t n : ℕ) (j : ℤ)
+  direct : term ls u ≡ some (num k) → Bound ls u k
+  underMinus : (t n : ℕ) (j : ℤ)
       → term ls u ≡ some (comp (pos t) (n ∷ [])) → term ls t ≡ some (str minus) → term ls n ≡ some (num j) → k ≡ negℤ j
       → Bound ls u k
 

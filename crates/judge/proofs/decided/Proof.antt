@@ -10,7 +10,7 @@ use Rattle.terms.specs.Terms.{Stated}
 use Rattle.terms.proofs.Walks.{new-room}
 use Rattle.terms.proofs.Marking.{marks-zeros}
 use Rattle.judge.specs.Plan.{asked}
-use Rattle.judge.specs.Judged.{unreadable, ready, broken, whole, unfounded, founded}
+use Rattle.judge.specs.Judged.{unreadable, ready, breaks, sound, unfounded, founded}
 use Rattle.judge.specs.Values.{rooms}
 use Rattle.judge.proofs.Said.{stating-filled}
 use Rattle.judge.proofs.Staging.{unread, unsound, passed, marked, pair-ready, pair-refused, broken-as, founded-as}
@@ -137,7 +137,7 @@ returns-4 c =
     let p = passed (asked (s .args .text .now) (s .args .cand .now)) (rooms (s .args .room .now) (s .args .cycle .now)) {ks = collect .last .1 .1 .1 .1 .1 .0} (s .pre) (read .kept .1 .0) (rw (the-a .given .1) at (read .ensures .1 .0)) (rw (the-a .given .1) at (read .ensures .1 .1)) (rw (the-b .given .1) at (collect .ensures)) (still-roomy new-room (k .1 .1 .0) (k .1 .1 .1 .0) (k .1 .1 .1 .1 .0) (k .1 .1 .1 .1 .1 .0)) in
     let e = rw (c .before .before .before .before .before .before .before .enum-told3 .given .1) at (c .before .before .before .before .before .before .before .before .before .before .candidate .ensures) in
     let w = rw (c .before .before .broken .given .1) at (c .before .before .before .before .first-broken .ensures) in
-    ready _ (p .decides ∙ pair-ready _ _ _ e) (broken _ (broken-as _ _ w) (rw (c .refuse .ensures)))
+    ready _ (p .decides ∙ pair-ready _ _ _ e) (breaks _ (broken-as _ _ w) (rw (c .refuse .ensures)))
 
 enum-told-5 : tie.Need-enum-told-5
 enum-told-5 c = search needs
@@ -205,7 +205,7 @@ returns-5 c =
     let x = marked _ _ (candidate .kept .1 .0) e in
     let w = rw (c .before .before .before .before .before .before .before .before .before .before .before .before .before .before .enum-told5 .given .1) at (c .before .before .before .before .before .before .before .before .before .before .before .before .before .before .before .before .first-broken .ensures) in
     let u = rw (c .before .before .before .unfounded .given .1) at (c .before .before .before .before .before .smallest-unfounded .ensures) in
-    ready _ (p .decides ∙ pair-ready _ _ _ e) (whole (broken-as _ _ w) (unfounded _ (founded-as (meaning.unfoundedAt _) (p .stating) x (c .before .before .before .before .before .before .before .before .before .before .externals .ensures) u) (rw (c .refuse2 .ensures))))
+    ready _ (p .decides ∙ pair-ready _ _ _ e) (sound (broken-as _ _ w) (unfounded _ (founded-as (meaning.unfoundedAt _) (p .stating) x (c .before .before .before .before .before .before .before .before .before .before .externals .ensures) u) (rw (c .refuse2 .ensures))))
 
 enum-told-6 : tie.Need-enum-told-6
 enum-told-6 c = search needs
@@ -262,7 +262,7 @@ returns-6 c =
     let x = marked _ _ (candidate .kept .1 .0) e in
     let w = rw (c .before .before .before .before .before .before .before .before .before .before .before .before .before .before .before .before .before .before .before .before .before .before .before .before .before .before .before .enum-told5 .given .1) at (c .before .before .before .before .before .before .before .before .before .before .before .before .before .before .before .before .before .before .before .before .before .before .before .before .before .before .before .before .before .first-broken .ensures) in
     let u = rw (c .before .before .before .before .before .before .before .before .before .before .before .before .before .before .before .before .enum-told6 .given .1) at (c .before .before .before .before .before .before .before .before .before .before .before .before .before .before .before .before .before .before .smallest-unfounded .ensures) in
-    ready _ (p .decides ∙ pair-ready _ _ _ e) (whole (broken-as _ _ w) (founded (founded-as meaning.founded (p .stating) x (c .before .before .before .before .before .before .before .before .before .before .before .before .before .before .before .before .before .before .before .before .before .before .before .externals .ensures) u) (c .before .before .before .before .before .before .before .before .timed .ensures _ (p .stating))))
+    ready _ (p .decides ∙ pair-ready _ _ _ e) (sound (broken-as _ _ w) (founded (founded-as meaning.founded (p .stating) x (c .before .before .before .before .before .before .before .before .before .before .before .before .before .before .before .before .before .before .before .before .before .before .before .externals .ensures) u) (c .before .before .before .before .before .before .before .before .timed .ensures _ (p .stating))))
 
 pub decided-spec : {M : Type 1} → statement M
 decided-spec =
