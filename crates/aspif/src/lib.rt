@@ -21,6 +21,7 @@ mod rules;
 mod tape;
 mod theory;
 pub mod walk;
+pub mod words;
 
 // What the text says, on the tape from its start on, and how many lines that is; or 3, 4 or 5.
 pub fn read(s: &[u8], tape: &mut [u32]) -> Step

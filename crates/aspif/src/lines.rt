@@ -15,6 +15,7 @@ use crate::rules::output_line;
 use crate::rules::rule_line;
 use crate::tape::head_line;
 use crate::theory::theory_part;
+use crate::words::SAYS;
 use faults::Kind;
 use faults::Refusal;
 use faults::Step;
@@ -101,7 +102,7 @@ pub fn lines(c: Cursor, s: &[u8], n: usize, tape: &mut [u32]) -> Step
             let count = n - left;
             return Step::Good(count);
         }
-        let from = o + 2;
+        let from = o + SAYS;
         let w = statement_of(e, s, k, place, tape, from);
         let Wrote::Got(f, p) = w else {
             return Step::Refused(w.refusal());

@@ -4,6 +4,8 @@ ghost use Prim.Native.Nat.{_+_, _-_, _≤_, _<_};
 ghost use mathlib.Core.List.{[], _∷_};
 ghost use lib.ListN.{length, set};
 ghost use lib.Seq.{sets};
+use crate::words::SAYS;
+use crate::words::SIZE;
 use faults::AtomNo;
 use faults::ElementNo;
 use faults::TermNo;
@@ -63,9 +65,9 @@ pub fn head_line(tape: &mut [u32], out: usize, place: usize, end: usize)
     requires { ⌜ (out + 2 ≤ end) × (end ≤ length (now tape)) × (place < 4294967296) × (end < 4294967296) ⌝ }
     ensures { λ _. ⌜ now (tape .exit) ≡ set (set (now (tape .entry)) out place) (out + 1) (end - (out + 2)) ⌝ }
 {
-    let from = out + 2;
+    let from = out + SAYS;
     let size = end - from;
-    let next = out + 1;
+    let next = out + SIZE;
     tape[out] = place as u32;
     tape[next] = size as u32;
 }

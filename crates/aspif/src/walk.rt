@@ -3,6 +3,8 @@ ghost use mathlib.Core.Path.{_≡_};
 ghost use Prim.Native.Nat.{_+_, _≤_, _<_};
 ghost use lib.ListN.{length};
 ghost use Rattle.aspif.specs.inner.Words.{word, after};
+use crate::words::SAYS;
+use crate::words::SIZE;
 use faults::AtomNo;
 use faults::ElementNo;
 use faults::TermNo;
@@ -54,7 +56,7 @@ pub fn after_at(tape: &[u32], p: usize) -> usize
     requires { ⌜ p ≤ length (now tape) ⌝ }
     ensures { λ r. ⌜ r ≡ after (now (tape .entry)) p ⌝ }
 {
-    let size = word_at(tape, p, 1);
-    let from = p + 2;
+    let size = word_at(tape, p, SIZE);
+    let from = p + SAYS;
     from + (size as usize)
 }

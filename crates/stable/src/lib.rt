@@ -21,6 +21,9 @@ use aspif::kinds::RULE;
 use aspif::walk::after_at;
 use aspif::walk::atom_at;
 use aspif::walk::word_at;
+use aspif::words::HEAD_KIND;
+use aspif::words::HEADS;
+use aspif::words::SAYS;
 use faults::ATOM_PLACES;
 use faults::AtomNo;
 
@@ -80,10 +83,10 @@ fn is_broken(tape: &[u32], q: usize, x: &[u8]) -> bool
     requires { ⌜ length (now x) ≡ atomPlaces ⌝ }
     ensures { λ r. ⌜ r ≡ broken (isMarked (now (x .entry))) (some (ruleAt (now (tape .entry)) q)) ⌝ }
 {
-    if tape[q + 1] != 0 {
+    if tape[q + HEAD_KIND] != 0 {
         return false;
     }
-    let h = q + 2;
+    let h = q + HEADS;
     let n = count_at(tape, h);
     if n != 0 {
         let a = atom_at(tape, h, 1);
@@ -105,8 +108,8 @@ pub fn first_broken(tape: &[u32], n: usize, x: &[u8]) -> Broken
     let mut p = 0;
     let mut left = n;
     while left != 0 {
-        if word_at(tape, p, 2) == RULE {
-            let q = p + 2;
+        if word_at(tape, p, SAYS) == RULE {
+            let q = p + SAYS;
             if is_broken(tape, q, x) {
                 let place = tape[p];
                 return Broken::At(place);
@@ -177,13 +180,13 @@ fn fire(tape: &[u32], q: usize, x: &[u8], found: &mut [u8]) -> usize
     requires { ⌜ length (now found) ≡ atomPlaces ⌝ }
     ensures { λ r. ⌜ AddedMarks (fires (isMarked (now (x .entry))) (isMarked (now (found .entry))) (ruleAt (now (tape .entry)) q)) (now (found .entry)) (now (found .exit)) r ⌝ }
 {
-    let h = q + 2;
+    let h = q + HEADS;
     let n = count_at(tape, h);
     let b = h + 1 + n;
     if !body_true(tape, b, x, found) {
         return 0;
     }
-    if tape[q + 1] != 0 {
+    if tape[q + HEAD_KIND] != 0 {
         return add_chosen(tape, h, x, found);
     }
     add_single(tape, h, found)
@@ -277,8 +280,8 @@ fn list_rules(tape: &[u32], n: usize, index: &mut [u32]) -> usize
     let mut p = 0;
     let mut left = n;
     while left != 0 {
-        if word_at(tape, p, 2) == RULE {
-            let q = p + 2;
+        if word_at(tape, p, SAYS) == RULE {
+            let q = p + SAYS;
             index[m] = q as u32;
             m += 1;
         }

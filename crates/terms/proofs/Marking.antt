@@ -130,15 +130,15 @@ heads-all k hs = go (eqb k 0) hs
     go true (a ∷ []) h = refl
     go true (a ∷ b ∷ hs) h = absurd (omega arith)
 
-pub line-heads : (t : List ℕ) (p k n : ℕ) (l l′ : List ℕ) → LineOn t p → k ≡ word t (p + 2) → k ≡ ruleKind → n ≡ word t (p + 4)
-    → Remarked l l′ (λ b a. b && not (among a (wordsFrom t (p + 5) n))) → Remarked l l′ (λ b a. b && not (headIn a (ruleIn (saysAt t (p + 2)))))
+pub line-heads : (t : List ℕ) (p k n : ℕ) (l l′ : List ℕ) → LineOn t p → k ≡ word t (p + 2) → k ≡ ruleKind → n ≡ word t (p + 2 + 2)
+    → Remarked l l′ (λ b a. b && not (among a (wordsFrom t (p + 2 + 3) n))) → Remarked l l′ (λ b a. b && not (headIn a (ruleIn (saysAt t (p + 2)))))
 line-heads t p k n l l′ on ek z en f =
     let says = rule-says t (p + 2) (sym ek ∙ z) in
     let x : p + 2 + 2 ≡ p + 4 = omega arith in
-    let y : p + 2 + 2 + 1 ≡ p + 5 = omega arith in
+    let y : p + 2 + 2 + 1 ≡ p + 2 + 3 = omega arith in
     let hs = listAt t (p + 2 + 2) in
     let c : length hs ≡ length (headAtoms (headOf (word t (p + 2 + 1)) hs)) = words-length t _ _ ∙ ap (word t) x ∙ head-count t (literalWords (literalsAt t (behind t (p + 2 + 2)))) p _ _ (headOf (word t (p + 2 + 1)) hs) (rw says at (on .stand)) in
-    record { each = λ a h. f .each a h ∙ rw (says, heads-all (word t (p + 2 + 1)) hs c, y, x, en) }
+    record { each = λ a h. f .each a h ∙ rw (says, heads-all (word t (p + 2 + 1)) hs c, y, en) }
 
 -- ---- the heads of all lines
 

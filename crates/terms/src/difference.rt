@@ -18,6 +18,22 @@ use aspif::kinds::STRING;
 use aspif::walk::element_at;
 use aspif::walk::term_at;
 use aspif::walk::word_at;
+use aspif::words::ARGUMENTS;
+use aspif::words::BOUND;
+use aspif::words::CONDITION;
+use aspif::words::ELEMENTS;
+use aspif::words::FIRST_ARGUMENT;
+use aspif::words::FIRST_BYTE;
+use aspif::words::FIRST_ELEMENT;
+use aspif::words::FIRST_TERM;
+use aspif::words::FUNCTOR;
+use aspif::words::KIND;
+use aspif::words::LENGTH;
+use aspif::words::NAME;
+use aspif::words::OPERATOR;
+use aspif::words::SECOND_ARGUMENT;
+use aspif::words::TERMS;
+use aspif::words::VALUE;
 use faults::ElementNo;
 use faults::TermNo;
 
@@ -50,7 +66,7 @@ fn same(tape: &[u32], q: usize, n: u32, wanted: &[u8]) -> bool
         if left == 0 {
             return false;
         }
-        let k = i + 3;
+        let k = i + FIRST_BYTE;
         let b = word_at(tape, q, k);
         let w = wanted[i] as u32;
         if b != w {
@@ -72,11 +88,11 @@ fn named(tape: &[u32], terms: &[usize], u: TermNo, wanted: &[u8]) -> bool
         return false;
     }
     let q = e - 1;
-    let kind = word_at(tape, q, 0);
+    let kind = word_at(tape, q, KIND);
     if kind != STRING {
         return false;
     }
-    let n = word_at(tape, q, 2);
+    let n = word_at(tape, q, LENGTH);
     same(tape, q, n, wanted)
 }
 
@@ -128,11 +144,11 @@ fn against(tape: &[u32], terms: &[usize], u: TermNo) -> Limit
         return Limit::Not;
     }
     let q = e - 1;
-    let kind = word_at(tape, q, 0);
+    let kind = word_at(tape, q, KIND);
     if kind != NUMBER {
         return Limit::Not;
     }
-    let w = word_at(tape, q, 2);
+    let w = word_at(tape, q, VALUE);
     Limit::Is(negated(w))
 }
 
@@ -144,15 +160,15 @@ fn minus_of(tape: &[u32], terms: &[usize], e: usize, count: u32) -> bool
         return false;
     }
     let q = e - 1;
-    let kind = word_at(tape, q, 0);
+    let kind = word_at(tape, q, KIND);
     if kind != COMPOUND {
         return false;
     }
-    let n = word_at(tape, q, 3);
+    let n = word_at(tape, q, ARGUMENTS);
     if n != count {
         return false;
     }
-    let t = word_at(tape, q, 2);
+    let t = word_at(tape, q, FUNCTOR);
     is_minus(tape, terms, t)
 }
 
@@ -165,15 +181,15 @@ fn bound(tape: &[u32], terms: &[usize], u: TermNo) -> Limit
         return Limit::Not;
     }
     let q = e - 1;
-    let kind = word_at(tape, q, 0);
+    let kind = word_at(tape, q, KIND);
     if kind == NUMBER {
-        let w = word_at(tape, q, 2);
+        let w = word_at(tape, q, VALUE);
         return Limit::Is(signed(w));
     }
     if !minus_of(tape, terms, e, 1) {
         return Limit::Not;
     }
-    let n = term_at(tape, q, 4);
+    let n = term_at(tape, q, FIRST_ARGUMENT);
     against(tape, terms, n)
 }
 
@@ -186,8 +202,8 @@ fn pair(tape: &[u32], terms: &[usize], u: TermNo) -> Sides
         return Sides::Not;
     }
     let q = e - 1;
-    let x = term_at(tape, q, 4);
-    let y = term_at(tape, q, 5);
+    let x = term_at(tape, q, FIRST_ARGUMENT);
+    let y = term_at(tape, q, SECOND_ARGUMENT);
     Sides::Are(x, y)
 }
 
@@ -200,19 +216,19 @@ fn pair_in(tape: &[u32], terms: &[usize], elements: &[usize], v: ElementNo) -> S
         return Sides::Not;
     }
     let q = e - 1;
-    let kind = word_at(tape, q, 0);
+    let kind = word_at(tape, q, KIND);
     if kind != ELEMENT {
         return Sides::Not;
     }
-    let n = word_at(tape, q, 2);
+    let n = word_at(tape, q, TERMS);
     if n != 1 {
         return Sides::Not;
     }
-    let m = word_at(tape, q, 4);
+    let m = word_at(tape, q, CONDITION);
     if m != 0 {
         return Sides::Not;
     }
-    let w = term_at(tape, q, 3);
+    let w = term_at(tape, q, FIRST_TERM);
     pair(tape, terms, w)
 }
 
@@ -235,23 +251,23 @@ fn inside(tape: &[u32], terms: &[usize], elements: &[usize], v: ElementNo, u: Te
 pub fn difference(tape: &[u32], q: usize, terms: &[usize], elements: &[usize]) -> Said
     ensures { λ r. ⌜ asSaid r ≡ statedOn (now (tape .entry)) (now (terms .entry)) (now (elements .entry)) q ⌝ }
 {
-    let kind = word_at(tape, q, 0);
+    let kind = word_at(tape, q, KIND);
     if kind != GUARDED {
         return Said::Not;
     }
-    let n = word_at(tape, q, 3);
+    let n = word_at(tape, q, ELEMENTS);
     if n != 1 {
         return Said::Not;
     }
-    let name = term_at(tape, q, 2);
+    let name = term_at(tape, q, NAME);
     if !named(tape, terms, name, b"diff") {
         return Said::Not;
     }
-    let g = term_at(tape, q, 5);
+    let g = term_at(tape, q, OPERATOR);
     if !named(tape, terms, g, b"<=") {
         return Said::Not;
     }
-    let v = element_at(tape, q, 4);
-    let u = term_at(tape, q, 6);
+    let v = element_at(tape, q, FIRST_ELEMENT);
+    let u = term_at(tape, q, BOUND);
     inside(tape, terms, elements, v, u)
 }

@@ -32,6 +32,15 @@ use aspif::walk::atom_at;
 use aspif::walk::element_at;
 use aspif::walk::term_at;
 use aspif::walk::word_at;
+use aspif::words::ARGUMENTS;
+use aspif::words::FIRST_ARGUMENT;
+use aspif::words::FIRST_TERM;
+use aspif::words::FUNCTOR;
+use aspif::words::KIND;
+use aspif::words::OF;
+use aspif::words::PLACE;
+use aspif::words::SAYS;
+use aspif::words::TERMS;
 use faults::AtomNo;
 use faults::Kind;
 use faults::Refusal;
@@ -112,21 +121,21 @@ fn bad_term(tape: &[u32], q: usize, terms: &[usize]) -> bool
     requires { ⌜ (q ≤ length (now tape)) × (roleOf (word (now tape) q) ≡ role.Term) ⌝ }
     ensures { λ r. ⌜ ((els seen : List ℕ) → r ≡ faulty (envOf (now (tape .entry)) (now (terms .entry)) els seen) (theoryIn (saysAt (now (tape .entry)) q))) ⌝ }
 {
-    let u = term_at(tape, q, 1);
+    let u = term_at(tape, q, OF);
     let before = term_entry(terms, u);
     if before != 0 {
         return true;
     }
-    let kind = word_at(tape, q, 0);
+    let kind = word_at(tape, q, KIND);
     if kind != COMPOUND {
         return false;
     }
-    let t = word_at(tape, q, 2);
+    let t = word_at(tape, q, FUNCTOR);
     if !functor_known(tape, terms, t) {
         return true;
     }
-    let n = word_at(tape, q, 3);
-    let from = q + 4;
+    let n = word_at(tape, q, ARGUMENTS);
+    let from = q + FIRST_ARGUMENT;
     !all_known(tape, from, n, terms)
 }
 
@@ -135,13 +144,13 @@ fn bad_element(tape: &[u32], q: usize, terms: &[usize], elements: &[usize]) -> b
     requires { ⌜ (q ≤ length (now tape)) × (roleOf (word (now tape) q) ≡ role.Element) ⌝ }
     ensures { λ r. ⌜ ((seen : List ℕ) → r ≡ faulty (envOf (now (tape .entry)) (now (terms .entry)) (now (elements .entry)) seen) (theoryIn (saysAt (now (tape .entry)) q))) ⌝ }
 {
-    let v = element_at(tape, q, 1);
+    let v = element_at(tape, q, OF);
     let e = element_entry(elements, v);
     if e != 0 {
         return true;
     }
-    let n = word_at(tape, q, 2);
-    let from = q + 3;
+    let n = word_at(tape, q, TERMS);
+    let from = q + FIRST_TERM;
     !all_known(tape, from, n, terms)
 }
 
@@ -149,7 +158,7 @@ fn bad_element(tape: &[u32], q: usize, terms: &[usize], elements: &[usize]) -> b
 fn refuse(tape: &[u32], p: usize) -> Turn
     ensures { λ r. ⌜ asTurn r ≡ refused 6 (word (now (tape .entry)) p) ⌝ }
 {
-    let place = word_at(tape, p, 0);
+    let place = word_at(tape, p, PLACE);
     Turn::Refused(Refusal {
         kind: Kind::Terms,
         place: place as usize,
@@ -161,11 +170,11 @@ fn take_term(tape: &[u32], p: usize, terms: &mut [usize]) -> Turn
     requires { ⌜ LineOn (now tape) p × (roleOf (word (now tape) (p + 2)) ≡ role.Term) × (length (now terms) ≡ termPlaces) ⌝ }
     ensures { λ r. ⌜ ((els seen : List ℕ) → Turned (now (tape .entry)) p (now (terms .entry)) els seen r (now (terms .exit)) els seen) ⌝ }
 {
-    let q = p + 2;
+    let q = p + SAYS;
     if bad_term(tape, q, terms) {
         return refuse(tape, p);
     }
-    let u = term_at(tape, q, 1);
+    let u = term_at(tape, q, OF);
     let mark = q + 1;
     put_term(terms, u, mark);
     Turn::Goes
@@ -176,11 +185,11 @@ fn take_element(tape: &[u32], p: usize, terms: &[usize], elements: &mut [usize])
     requires { ⌜ LineOn (now tape) p × (roleOf (word (now tape) (p + 2)) ≡ role.Element) × (length (now elements) ≡ elementPlaces) ⌝ }
     ensures { λ r. ⌜ ((seen : List ℕ) → Turned (now (tape .entry)) p (now (terms .entry)) (now (elements .entry)) seen r (now (terms .entry)) (now (elements .exit)) seen) ⌝ }
 {
-    let q = p + 2;
+    let q = p + SAYS;
     if bad_element(tape, q, terms, elements) {
         return refuse(tape, p);
     }
-    let v = element_at(tape, q, 1);
+    let v = element_at(tape, q, OF);
     let mark = q + 1;
     put_element(elements, v, mark);
     Turn::Goes
@@ -197,8 +206,8 @@ fn take_atom(
     requires { ⌜ LineOn (now tape) p × (roleOf (word (now tape) (p + 2)) ≡ role.Atom) × (length (now seen) ≡ atomPlaces) ⌝ }
     ensures { λ r. ⌜ Turned (now (tape .entry)) p (now (terms .entry)) (now (elements .entry)) (now (seen .entry)) r (now (terms .entry)) (now (elements .entry)) (now (seen .exit)) ⌝ }
 {
-    let q = p + 2;
-    let a = atom_at(tape, q, 1);
+    let q = p + SAYS;
+    let a = atom_at(tape, q, OF);
     let earlier = atom_entry(seen, a);
     if earlier != 0 {
         return refuse(tape, p);
@@ -223,7 +232,7 @@ pub fn take_line(
     requires { ⌜ LineOn (now tape) p × Tables (now terms) (now elements) (now seen) ⌝ }
     ensures { λ r. ⌜ Turned (now (tape .entry)) p (now (terms .entry)) (now (elements .entry)) (now (seen .entry)) r (now (terms .exit)) (now (elements .exit)) (now (seen .exit)) ⌝ }
 {
-    let kind = word_at(tape, p, 2);
+    let kind = word_at(tape, p, SAYS);
     let role = role_of(kind);
     match role {
         Role::Term => take_term(tape, p, terms),

@@ -14,6 +14,9 @@ use aspif::kinds::RULE;
 use aspif::walk::after_at;
 use aspif::walk::atom_at;
 use aspif::walk::word_at;
+use aspif::words::FIRST_HEAD;
+use aspif::words::HEADS;
+use aspif::words::SAYS;
 
 // Writes a mark, 1 or 0, where there is a place for it.
 fn mark(bits: &mut [u8], n: u32, v: u8)
@@ -68,12 +71,13 @@ fn clear_line(tape: &[u32], p: usize, bits: &mut [u8])
     requires { ⌜ LineOn (now tape) p ⌝ }
     ensures { λ _. ⌜ Remarked (now (bits .entry)) (now (bits .exit)) (λ b a. b && not (headIn a (ruleIn (saysAt (now (tape .entry)) (p + 2))))) ⌝ }
 {
-    let kind = word_at(tape, p, 2);
+    let kind = word_at(tape, p, SAYS);
     if kind != RULE {
         return;
     }
-    let n = word_at(tape, p, 4);
-    let from = p + 5;
+    let q = p + SAYS;
+    let n = word_at(tape, q, HEADS);
+    let from = q + FIRST_HEAD;
     clear_list(tape, from, n, bits);
 }
 

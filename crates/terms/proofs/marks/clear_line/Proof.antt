@@ -11,6 +11,9 @@ word-at-requires c κs = search needs
 returns : tie.Need-returns
 returns c = line-none _ _ _ _ (c .before .word-at .ensures .0) (c .if1 .taken)
 
+add-q : tie.Need-add-q
+add-q c = omega (arith, c .before .before .before .before .pre .stand .inside)
+
 word-at-requires-2 : tie.Need-word-at-requires-2
 word-at-requires-2 c κs = search needs
 
@@ -32,6 +35,7 @@ clear-line-spec =
     (tie.spec
     word-at-requires
     returns
+    add-q
     word-at-requires-2
     add-from
     clear-list-requires
