@@ -61,13 +61,23 @@ mod measured {
         ("4,096 atoms by choice", plan(&format!("1 1 4096 {} 0 0\n", all.join(" "))), generating::candidate_of(&atoms))
     }
 
-    // The longest chain of rules, the last first, that a text of 60,000 bytes holds; a comment fills it.
-    fn many_rules() -> Input {
-        let longest = (1..).take_while(|n| generating::rule_chain(*n, true).0.len() <= 59_995).last().unwrap_or(1);
-        let (text, cand) = generating::rule_chain(longest, true);
+    // The longest chain of some kind that a text of 60,000 bytes holds; a comment fills it.
+    fn longest(name: &'static str, chain: fn(usize) -> generating::Case) -> Input {
+        let longest = (4..).take_while(|n| chain(*n).0.len() <= 59_995).last().unwrap_or(4);
+        let (text, cand) = chain(longest);
         let comment = "c".repeat(60_000 - text.len() - 4);
         let text = [&text[..text.len() - 2], format!("10 {comment}\n0\n").as_bytes()].concat();
-        ("60,000 bytes of rules, worst order", text, cand)
+        (name, text, cand)
+    }
+
+    // A chain of rules, the last first.
+    fn many_rules() -> Input {
+        longest("60,000 bytes of rules, worst order", |n| generating::rule_chain(n, true))
+    }
+
+    // A chain of weight rules that is founded in twenty rounds.
+    fn many_weights() -> Input {
+        longest("60,000 bytes of weight rules", |n| generating::weight_chain(n, 20, true))
     }
 
     // What is measured.
@@ -77,6 +87,7 @@ mod measured {
         vec![
             ("plan P", PLAN_P.to_vec(), CAND_P.to_vec()),
             many_rules(),
+            many_weights(),
             many_differences(),
             ("a chain of 500 names, worst order", chain, chain_cand),
             ("a negative cycle of 500 names", cycle, cycle_cand),

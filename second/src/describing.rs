@@ -2,7 +2,7 @@
 
 use crate::candidate::read_candidate;
 use crate::judging::check_length;
-use crate::reading::{read_text, Base, Line, Literal, Statement};
+use crate::reading::{read_text, Base, Body, Line, Literal, Statement, Weighted};
 use crate::refusal::Refusal;
 
 // One printed line of numbers.
@@ -48,10 +48,30 @@ fn counted_bytes(bytes: &[u8]) -> Vec<u64> {
     counted(&bytes.iter().map(|b| u32::from(*b)).collect::<Vec<_>>())
 }
 
-// A count, then the literals: twice the atom, one more if negated.
+// A literal: twice the atom, one more if negated.
+fn literal_code(literal: &Literal) -> u32 {
+    2 * literal.atom + u32::from(literal.negated)
+}
+
+// A literal with its weight, in one number.
+fn weighted_code(weighted: &Weighted) -> u32 {
+    16_384 * weighted.weight + literal_code(&weighted.literal)
+}
+
+// A count, then the literals.
 fn counted_literals(literals: &[Literal]) -> Vec<u64> {
-    let code = |l: &Literal| 2 * l.atom + u32::from(l.negated);
-    counted(&literals.iter().map(code).collect::<Vec<_>>())
+    counted(&literals.iter().map(literal_code).collect::<Vec<_>>())
+}
+
+// A body's kind and bound, 0 and 0 for a normal one; then a count and the literals.
+fn body_numbers(body: &Body) -> Vec<u64> {
+    match body {
+        Body::Normal(literals) => [vec![0, 0], counted_literals(literals)].concat(),
+        Body::Weights { bound, literals } => {
+            let codes: Vec<u32> = literals.iter().map(weighted_code).collect();
+            [vec![1, u64::from(*bound)], counted(&codes)].concat()
+        }
+    }
 }
 
 // An integer: twice its size, one more below zero.
@@ -81,7 +101,7 @@ fn line_numbers(line: &Line) -> Vec<u64> {
 fn statement_numbers(statement: &Statement) -> (u64, Vec<Vec<u64>>) {
     match statement {
         Statement::Rule { choice, head, body } => {
-            (1, vec![vec![u64::from(*choice)], counted(head), counted_literals(body)])
+            (1, vec![vec![u64::from(*choice)], counted(head), body_numbers(body)])
         }
         Statement::Output { string, condition } => {
             (4, vec![counted_bytes(string), counted_literals(condition)])

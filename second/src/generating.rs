@@ -3,6 +3,7 @@
 use crate::judging::{read_plan, settle, Outcome, Plan};
 use crate::meaning::Atoms;
 use crate::random::Random;
+use crate::reading::{LARGEST_BOUND, LARGEST_WEIGHT};
 
 /// A plan text and a candidate.
 pub type Case = (Vec<u8>, Vec<u8>);
@@ -62,24 +63,88 @@ fn counted(numbers: &[i64]) -> Vec<i64> {
     all
 }
 
-// The parts of a rule put together.
-fn rule_line(choice: bool, head: &[i64], body: &[i64]) -> Vec<u8> {
-    let kind = vec![1, i64::from(choice)];
-    line_of(&[kind, counted(head), vec![0], counted(body)].concat())
+/// A literal and its weight.
+type Pair = (i64, i64);
+
+// The fields of a normal body.
+fn normal_body(literals: &[i64]) -> Vec<i64> {
+    [vec![0], counted(literals)].concat()
 }
 
-// A random rule: choice, normal, fact, or now and then a constraint.
+// The fields of a weight body.
+fn weight_body(bound: i64, pairs: &[Pair]) -> Vec<i64> {
+    let front = vec![1, bound, pairs.len() as i64];
+    front.into_iter().chain(pairs.iter().flat_map(|(l, w)| [*l, *w])).collect()
+}
+
+// The parts of a rule put together.
+fn rule_line(choice: bool, head: &[i64], body: &[i64]) -> Vec<u8> {
+    line_of(&[&[1, i64::from(choice)], counted(head).as_slice(), body].concat())
+}
+
+// A weight: one, two, the largest, or a small one.
+fn weight(random: &mut Random) -> i64 {
+    match random.below(8) {
+        0..=2 => 1,
+        3 => 2,
+        4 => LARGEST_WEIGHT as i64,
+        _ => random.from_to(1, 9),
+    }
+}
+
+// The weights of some pairs together.
+fn sum<'a>(pairs: impl IntoIterator<Item = &'a Pair>) -> i64 {
+    pairs.into_iter().map(|p| p.1).sum()
+}
+
+// A bound for some pairs: none, one, all weights, one above these, the largest; some weights or one above these; or any
+// up to all.
+fn bound(random: &mut Random, pairs: &[Pair]) -> i64 {
+    let all = sum(pairs);
+    match random.below(14) {
+        0 => 0,
+        1 => 1,
+        2 | 3 => all,
+        4 => all + 1,
+        5 => LARGEST_BOUND as i64,
+        6..=11 => sum(pairs.iter().filter(|_| random.once_in(2))) + i64::from(random.once_in(3)),
+        _ => random.from_to(0, all),
+    }
+}
+
+// A random weight body: seldom without a literal, often with one of them twice.
+fn weights(random: &mut Random, atoms: usize, most: usize) -> Vec<i64> {
+    let mut all = literals(random, atoms, most);
+    if !random.once_in(5) {
+        all.push(literal(random, atoms));
+    }
+    if !all.is_empty() && random.once_in(4) {
+        all.push(*random.one_of(&all));
+    }
+    let pairs: Vec<Pair> = all.into_iter().map(|l| (l, weight(random))).collect();
+    weight_body(bound(random, &pairs), &pairs)
+}
+
+// A random body, in more than half of the cases with weights.
+fn body(random: &mut Random, atoms: usize, most: usize) -> Vec<i64> {
+    match random.below(9) {
+        0..=3 => normal_body(&literals(random, atoms, most)),
+        _ => weights(random, atoms, most),
+    }
+}
+
+// A random rule: choice, plain, fact, or now and then a constraint.
 fn rule(random: &mut Random, atoms: usize) -> Vec<u8> {
     let atom = |r: &mut Random| r.from_to(1, atoms as i64);
     match random.below(10) {
         0..=2 => {
             let n = random.below(4);
             let head: Vec<i64> = (0..n).map(|_| atom(random)).collect();
-            rule_line(true, &head, &literals(random, atoms, 2))
+            rule_line(true, &head, &body(random, atoms, 2))
         }
-        3 => rule_line(false, &[atom(random)], &[]),
-        4 => rule_line(false, &[], &literals(random, atoms, 3)),
-        _ => rule_line(false, &[atom(random)], &literals(random, atoms, 3)),
+        3 => rule_line(false, &[atom(random)], &normal_body(&[])),
+        4 => rule_line(false, &[], &body(random, atoms, 3)),
+        _ => rule_line(false, &[atom(random)], &body(random, atoms, 3)),
     }
 }
 
@@ -262,7 +327,7 @@ fn add_support(random: &mut Random, atoms: usize, lines: &mut Vec<Vec<u8>>) {
     if random.once_in(2) {
         let head: Vec<i64> = (1..=atoms as i64).filter(|_| !random.once_in(3)).collect();
         let at = random.below(lines.len() + 1);
-        lines.insert(at, rule_line(true, &head, &[]));
+        lines.insert(at, rule_line(true, &head, &normal_body(&[])));
     }
 }
 
@@ -307,9 +372,9 @@ fn perturb(random: &mut Random, atoms: &mut Atoms) {
 fn edge_number(random: &mut Random) -> Vec<u8> {
     let edges = [
         "0", "1", "2", "3", "4", "5", "6", "7", "8", "9", "10", "11", "1023", "1024", "4095", "4096", "4097",
-        "1000000", "1000001", "-1000000", "-1000001", "60000", "4294967295", "4294967296", "4294967297",
-        "18446744073709551616", "18446744073709551617", "-4294967297", "-1", "-2", "-3", "-4", "-4096",
-        "-4097", "-0", "00", "01", "-", "-01", "007", "+1", "--1", "1-", "",
+        "1000000", "1000001", "-1000000", "-1000001", "60000", "100000", "100001", "1000000000", "1000000001",
+        "4294967295", "4294967296", "4294967297", "18446744073709551616", "18446744073709551617", "-4294967297",
+        "-1", "-2", "-3", "-4", "-4096", "-4097", "-0", "00", "01", "-", "-01", "007", "+1", "--1", "1-", "",
     ];
     match random.below(20) {
         0 => vec![b'9'; 1000],
@@ -646,11 +711,26 @@ pub fn chain(names: usize, bound: i64, close: Option<i64>) -> Case {
 // Atom i from atom i-1, the last rule first; atom 1 a fact or from the last atom.
 pub fn rule_chain(atoms: usize, founded: bool) -> Case {
     let mut lines: Vec<Vec<u8>> =
-        (2..=atoms as i64).rev().map(|i| rule_line(false, &[i], &[i - 1])).collect();
+        (2..=atoms as i64).rev().map(|i| rule_line(false, &[i], &normal_body(&[i - 1]))).collect();
     let last = [atoms as i64];
-    lines.push(rule_line(false, &[1], if founded { &[] } else { &last }));
+    lines.push(rule_line(false, &[1], &normal_body(if founded { &[] } else { &last })));
     let all: Vec<u32> = (1..=atoms as u32).collect();
     (text_of(&lines), candidate_of(&all))
+}
+
+/// A chain of weight rules in an order that is founded in so many rounds.
+// Each atom from two of the three before it, the first three facts or from the last; stretches of lines, the last first.
+pub fn weight_chain(atoms: usize, rounds: usize, founded: bool) -> Case {
+    let n = atoms as i64;
+    let before = |i: i64| -> Vec<Pair> { (1..=3).map(|back| ((i - 1 - back).rem_euclid(n) + 1, 1)).collect() };
+    let line = |i: i64| match i {
+        1..=3 if founded => rule_line(false, &[i], &weight_body(0, &[])),
+        _ => rule_line(false, &[i], &weight_body(2, &before(i))),
+    };
+    let lines: Vec<Vec<u8>> = (1..=n).map(line).collect();
+    let stretches: Vec<&[Vec<u8>]> = lines.chunks(atoms.div_ceil(rounds)).rev().collect();
+    let all: Vec<u32> = (1..=atoms as u32).collect();
+    (text_of(&stretches.concat()), candidate_of(&all))
 }
 
 /// A readable text of exactly `length` bytes: one comment.

@@ -1,5 +1,5 @@
-//! A second opinion on the plan judge, written from document 01 and the
-//! decided points alone. It shares no code with any other implementation.
+//! A second opinion on the plan judge, written from documents 01 and 02 and
+//! the decided points alone. It shares no code with any other implementation.
 
 pub mod candidate;
 pub mod container;
@@ -23,6 +23,6 @@ pub use candidate::read_candidate;
 pub use describing::{describe, describe_candidate};
 pub use differences::{terms, Difference};
 pub use judging::{check_cycle, judge, report, show};
-pub use reading::{read_text, Base, Line, Literal, Statement};
+pub use reading::{read_text, Base, Body, Line, Literal, Statement, Weighted};
 pub use refusal::{Refusal, Verdict};
 pub use timetable::time;

@@ -1,7 +1,7 @@
 //! Stable models: refusals 8 and 9.
 
 use crate::differences::Difference;
-use crate::reading::{Line, Literal, Statement};
+use crate::reading::{Body, Line, Literal, Statement, Weighted};
 use std::collections::BTreeSet;
 
 /// A set of atoms.
@@ -12,12 +12,23 @@ fn holds(literal: &Literal, x: &Atoms) -> bool {
     x.contains(&literal.atom) != literal.negated
 }
 
+// The weights of some literals together.
+fn sum<'a>(literals: impl Iterator<Item = &'a Weighted>) -> u64 {
+    literals.map(|w| u64::from(w.weight)).sum()
+}
+
+// Whether a body is true in X: all its literals, or literals whose weights reach the bound.
+fn body_holds(body: &Body, x: &Atoms) -> bool {
+    match body {
+        Body::Normal(literals) => literals.iter().all(|l| holds(l, x)),
+        Body::Weights { bound, literals } => sum(literals.iter().filter(|w| holds(&w.literal, x))) >= u64::from(*bound),
+    }
+}
+
 // Whether a statement is a broken rule.
 fn is_broken(statement: &Statement, x: &Atoms) -> bool {
     match statement {
-        Statement::Rule { choice: false, head, body } => {
-            body.iter().all(|l| holds(l, x)) && !head.iter().any(|a| x.contains(a))
-        }
+        Statement::Rule { choice: false, head, body } => body_holds(body, x) && !head.iter().any(|a| x.contains(a)),
         _ => false,
     }
 }
@@ -27,10 +38,25 @@ pub fn first_broken(lines: &[Line], x: &Atoms) -> Option<u32> {
     lines.iter().find(|l| is_broken(&l.statement, x)).map(|l| l.place)
 }
 
+// A normal body in the reduct: none if a negated atom is in X, else its positive literals.
+fn reduced_normal(literals: &[Literal], x: &Atoms) -> Option<Body> {
+    if literals.iter().any(|l| l.negated && x.contains(&l.atom)) {
+        return None;
+    }
+    Some(Body::Normal(literals.iter().filter(|l| !l.negated).copied().collect()))
+}
+
+// A weight body in the reduct: the weights of negated atoms outside X are taken off the bound, the positive literals stay.
+fn reduced_weights(bound: u32, literals: &[Weighted], x: &Atoms) -> Body {
+    let outside = literals.iter().filter(|w| w.literal.negated && !x.contains(&w.literal.atom));
+    let left = u64::from(bound).saturating_sub(sum(outside)) as u32;
+    Body::Weights { bound: left, literals: literals.iter().filter(|w| !w.literal.negated).copied().collect() }
+}
+
 /// The rules of the reduct that one statement gives: one for each head, over one positive body.
 struct Positive {
     heads: Vec<u32>,
-    body: Vec<u32>,
+    body: Body,
 }
 
 // The rules of the reduct that one statement gives, if any.
@@ -38,11 +64,11 @@ fn reduced(statement: &Statement, x: &Atoms) -> Option<Positive> {
     let Statement::Rule { choice, head, body } = statement else {
         return None;
     };
-    if body.iter().any(|l| l.negated && x.contains(&l.atom)) {
-        return None;
-    }
+    let body = match body {
+        Body::Normal(literals) => reduced_normal(literals, x)?,
+        Body::Weights { bound, literals } => reduced_weights(*bound, literals, x),
+    };
     let heads = head.iter().filter(|a| !*choice || x.contains(a)).copied().collect();
-    let body = body.iter().filter(|l| !l.negated).map(|l| l.atom).collect();
     Some(Positive { heads, body })
 }
 
@@ -69,7 +95,7 @@ fn least_model(rules: &[Positive], facts: Atoms) -> Atoms {
     loop {
         let before = model.len();
         for rule in rules {
-            if rule.body.iter().all(|a| model.contains(a)) {
+            if body_holds(&rule.body, &model) {
                 model.extend(&rule.heads);
             }
         }

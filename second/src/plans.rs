@@ -1,7 +1,8 @@
-//! The judge's test vectors: pairs of a plan text and a candidate, from document 01, the source documents and P's neighbours.
+//! The judge's test vectors: pairs of a plan text and a candidate, from documents 01 and 02, the source documents and P's
+//! neighbours.
 
 use crate::container::Case;
-use crate::generating::long_text;
+use crate::generating::{candidate_of, long_text};
 use crate::judging::{judge, report, show, CYCLE_PLACES, ROOM_BYTES};
 use crate::refusal::{Refusal, Verdict};
 use crate::timetable::time;
@@ -42,7 +43,6 @@ const CHANGES: &[(&str, &str, &str)] = &[
     ("edge", "\n0\n", "\n8 0 1 1 1\n0\n"),
     ("type-11", "\n0\n", "\n11 1\n0\n"),
     ("disjunction", "1 0 1 2 0 1 1\n", "1 0 2 2 3 0 1 1\n"),
-    ("weights", "1 0 1 2 0 1 1\n", "1 0 1 2 1 1 1 1 1\n"),
     ("directive", "9 6 3 0 1 1 2 9\n", "9 6 0 0 1 1 2 9\n"),
     // Numbers beyond their bounds.
     ("bound-1000001", "9 0 5 40\n", "9 0 5 1000001\n"),
@@ -125,6 +125,30 @@ const CHANGES: &[(&str, &str, &str)] = &[
     ("constraint-false", "\n0\n", "\n1 0 0 0 2 2 -3\n0\n"),
     ("constraint-empty", "\n0\n", "\n1 0 0 0 0\n0\n"),
     ("no-choice", "1 1 1 1 0 0\n", ""),
+    // Weights: atom 2, which has a difference, by a weight rule; then fields that are wrong.
+    ("weights", "1 0 1 2 0 1 1\n", "1 0 1 2 1 1 1 1 1\n"),
+    ("weights-sum", "1 0 1 2 0 1 1\n", "1 0 1 2 1 7 2 1 3 3 4\n"),
+    ("weights-above", "1 0 1 2 0 1 1\n", "1 0 1 2 1 8 2 1 3 3 4\n"),
+    ("weights-one-enough", "1 0 1 2 0 1 1\n", "1 0 1 2 1 4 3 1 3 3 4 4 9\n"),
+    ("weights-zero", "1 0 1 2 0 1 1\n", "1 0 1 2 1 0 0\n"),
+    ("weights-largest", "1 0 1 2 0 1 1\n", "1 0 1 2 1 1000000000 2 1 100000 3 100000\n"),
+    ("weights-own-support", "1 0 1 2 0 1 1\n", "1 0 1 2 1 1 1 2 1\n"),
+    ("weights-own-beside", "1 0 1 2 0 1 1\n", "1 0 1 2 1 2 3 2 2 1 1 3 1\n"),
+    ("weights-taken-off", "1 0 1 2 0 1 1\n", "1 0 1 2 1 3 2 -4 2 1 1\n"),
+    ("weights-negated", "1 0 1 2 0 1 1\n", "1 0 1 2 1 3 2 -3 2 1 1\n"),
+    ("weights-choice", "1 1 1 1 0 0\n", "1 1 1 1 1 2 2 3 1 3 1\n"),
+    ("weights-constraint", "\n0\n", "\n1 0 0 1 6 3 1 1 2 2 3 3\n0\n"),
+    ("weights-constraint-not", "\n0\n", "\n1 0 0 1 7 3 1 1 2 2 3 3\n0\n"),
+    ("weights-kind-2", "1 0 1 2 0 1 1\n", "1 0 1 2 2 1 1 1 1\n"),
+    ("weights-no-bound", "1 0 1 2 0 1 1\n", "1 0 1 2 1\n"),
+    ("weights-bound-beyond", "1 0 1 2 0 1 1\n", "1 0 1 2 1 1000000001 1 1 1\n"),
+    ("weights-bound-minus", "1 0 1 2 0 1 1\n", "1 0 1 2 1 -1 1 1 1\n"),
+    ("weights-weight-0", "1 0 1 2 0 1 1\n", "1 0 1 2 1 1 1 1 0\n"),
+    ("weights-weight-beyond", "1 0 1 2 0 1 1\n", "1 0 1 2 1 1 1 1 100001\n"),
+    ("weights-weight-minus", "1 0 1 2 0 1 1\n", "1 0 1 2 1 1 1 1 -1\n"),
+    ("weights-weight-missing", "1 0 1 2 0 1 1\n", "1 0 1 2 1 1 1 1\n"),
+    ("weights-literal-zero", "1 0 1 2 0 1 1\n", "1 0 1 2 1 1 1 0 0\n"),
+    ("weights-count-4097", "1 0 1 2 0 1 1\n", "1 0 1 2 1 1 4097\n"),
 ];
 
 // Programs without differences: lines after the first and before `0`, and candidates.
@@ -141,6 +165,60 @@ const PROGRAMS: &[(&str, &str, &[&str])] = &[
     ("supported-loop", "1 0 1 1 0 1 2\n1 0 1 2 0 1 1\n1 1 1 3 0 0\n1 0 1 1 0 1 3\n", &["\n", "1 2\n", "1 2 3\n"]),
     ("far-atoms", "1 1 2 4095 4096 0 0\n1 0 0 0 1 -4096\n", &["4096\n", "4095 4096\n", "4095\n"]),
     ("bodies-repeat", "1 0 1 1 0 3 2 2 2\n1 0 1 2 0 0\n1 0 1 2 0 1 -2\n", &["1 2\n", "2\n"]),
+    // At least two of five links.
+    ("links", "1 1 5 1 2 3 4 5 0 0\n1 0 1 6 1 2 5 1 1 2 1 3 1 4 1 5 1\n", &["1 2 6\n", "1 2\n", "1 6\n", "\n", "1\n", "6\n", "3 5 6\n", "1 2 3 4 5 6\n", "1 2 3 4 5\n"]),
+    ("weights-far", "1 1 2 4095 4096 0 0\n1 0 1 1 1 200000 2 4095 100000 4096 100000\n1 0 0 1 100000 1 -4096 100000\n", &["1 4095 4096\n", "4095 4096\n", "4096\n", "1 4096\n", "4095\n"]),
+    ("weights-many", "1 1 12 1 2 3 4 5 6 7 8 9 10 11 12 0 0\n1 0 1 13 1 1100001 12 1 100000 2 100000 3 100000 4 100000 5 100000 6 100000 7 100000 8 100000 9 100000 10 100000 11 100000 12 1\n", &["1 2 3 4 5 6 7 8 9 10 11 12 13\n", "1 2 3 4 5 6 7 8 9 10 11 12\n", "1 2 3 4 5 6 7 8 9 10 11\n", "1 2 3 4 5 6 7 8 9 10 12\n", "1 2 3 4 5 6 7 8 9 10 11 13\n"]),
+];
+
+// Programs with weights, each with every set of its first atoms as a candidate.
+const WEIGHTS: &[(&str, &str, u32)] = &[
+    // A bound that is just reached and just not reached, one literal or all; the largest bound is never reached.
+    ("weights-short", "1 1 3 1 2 3 0 0\n1 0 1 4 1 5 3 1 1 2 2 3 3\n", 4),
+    ("weights-exact", "1 1 3 1 2 3 0 0\n1 0 1 4 1 6 3 1 1 2 2 3 3\n", 4),
+    ("weights-above", "1 1 3 1 2 3 0 0\n1 0 1 4 1 7 3 1 1 2 2 3 3\n", 4),
+    ("weights-any", "1 1 2 1 2 0 0\n1 0 1 3 1 1 2 1 1 2 100000\n", 3),
+    ("weights-heavy", "1 1 2 1 2 0 0\n1 0 1 3 1 100000 2 1 99999 2 100000\n", 3),
+    ("weights-largest", "1 1 2 1 2 0 0\n1 0 1 3 1 1000000000 2 1 100000 2 100000\n", 3),
+    ("weights-nothing", "1 0 1 1 1 1 0\n", 1),
+    // A literal twice, and with both signs.
+    ("weights-twice", "1 1 1 1 0 0\n1 0 1 2 1 2 2 1 1 1 1\n", 2),
+    ("weights-twice-above", "1 1 1 1 0 0\n1 0 1 2 1 3 2 1 1 1 1\n", 2),
+    ("weights-twice-unlike", "1 1 1 1 0 0\n1 0 1 2 1 5 2 1 2 1 3\n", 2),
+    ("weights-thrice-negated", "1 1 1 1 0 0\n1 0 1 2 1 3 3 -1 1 -1 1 -1 1\n", 2),
+    ("weights-both-1", "1 1 1 1 0 0\n1 0 1 2 1 1 2 1 1 -1 2\n", 2),
+    ("weights-both-2", "1 1 1 1 0 0\n1 0 1 2 1 2 2 1 1 -1 2\n", 2),
+    ("weights-both-3", "1 1 1 1 0 0\n1 0 1 2 1 3 2 1 1 -1 2\n", 2),
+    // Weights taken off the bound: all of it, all but one, more than it.
+    ("weights-off", "1 0 1 1 1 5 2 1 5 -2 5\n", 2),
+    ("weights-off-but-one", "1 0 1 1 1 6 2 1 5 -2 5\n", 2),
+    ("weights-off-more", "1 0 1 1 1 5 2 1 1 -2 9\n", 2),
+    ("weights-off-two", "1 1 2 1 2 0 0\n1 0 1 3 1 5 3 -1 2 -2 3 3 4\n", 3),
+    ("weights-off-helped", "1 1 2 1 2 0 0\n1 0 1 3 1 4 3 -1 2 2 2 3 4\n", 3),
+    // The bound 0.
+    ("weights-zero", "1 0 1 1 1 0 0\n", 1),
+    ("weights-zero-listed", "1 0 1 1 1 0 2 2 1 -1 1\n", 2),
+    ("weights-zero-choice", "1 1 2 1 2 1 0 1 3 1\n", 3),
+    ("weights-zero-constraint", "1 0 0 1 0 0\n", 1),
+    // Loops.
+    ("weights-loop", "1 0 1 1 1 1 2 2 1 3 1\n1 0 1 2 0 1 1\n", 3),
+    ("weights-loop-choice", "1 1 1 3 0 0\n1 0 1 1 1 1 2 2 1 3 1\n1 0 1 2 0 1 1\n", 3),
+    ("weights-loop-bound-2", "1 1 1 3 0 0\n1 0 1 1 1 2 2 2 1 3 1\n1 0 1 2 0 1 1\n", 3),
+    ("weights-loop-weights", "1 0 1 1 1 3 2 2 3 3 1\n1 0 1 2 1 2 2 1 2 3 1\n1 1 1 3 0 0\n", 3),
+    ("weights-own", "1 0 1 1 1 2 2 1 1 1 1\n", 1),
+    ("weights-own-negated", "1 0 1 1 1 1 2 1 1 -1 1\n", 1),
+    ("weights-odd", "1 0 1 1 1 1 1 -1 1\n", 1),
+    ("weights-even", "1 0 1 1 1 2 1 -2 2\n1 0 1 2 1 1 1 -1 1\n", 2),
+    // Several rounds, the last rule first.
+    ("weights-backwards", "1 0 1 1 1 3 2 2 1 3 2\n1 0 1 2 1 2 2 3 2 1 1\n1 0 1 3 1 0 0\n", 3),
+    ("weights-gathered", "1 0 1 1 1 4 3 2 1 3 2 1 9\n1 0 1 1 1 3 2 2 1 3 2\n1 0 1 2 0 0\n1 0 1 3 1 1 1 2 1\n", 3),
+    // Choice heads and constraints.
+    ("weights-choice", "1 1 2 1 2 0 0\n1 1 1 3 1 3 2 1 2 2 2\n", 3),
+    ("weights-choice-own", "1 1 1 1 1 1 2 1 1 -2 1\n", 2),
+    ("weights-choice-two", "1 1 1 1 0 0\n1 1 2 2 3 1 1 2 1 1 2 1\n", 3),
+    ("weights-constraint", "1 1 3 1 2 3 0 0\n1 0 0 1 4 3 1 1 2 2 3 3\n", 3),
+    ("weights-constraint-not", "1 1 3 1 2 3 0 0\n1 0 0 1 2 3 -1 1 -2 1 -3 1\n", 3),
+    ("weights-constraint-second", "1 1 2 1 2 0 0\n1 0 0 1 3 2 1 1 2 1\n1 0 0 1 2 2 1 1 2 1\n", 2),
 ];
 
 // Plans of differences: rules, then for each difference its atom, x, y and the bound; and candidates.
@@ -163,6 +241,15 @@ const DIFFERENCES: &[Plan] = &[
     ("demanded", "1 0 0 0 1 -1\n", &[(1, 3, 4, -2)], &["1\n", "\n"]),
     ("external-loop", "1 0 1 5 0 1 6\n1 0 1 6 0 1 5\n1 0 1 6 0 1 1\n", &[(1, 3, 4, -2)], &["1 5 6\n", "5 6\n"]),
     ("unfounded-first", "1 0 1 5 0 1 5\n", &[(1, 3, 4, -2), (2, 4, 3, 1)], &["1 2 5\n", "1 2\n"]),
+    // A difference by a weight rule; external atoms in a weight body; some of several differences demanded.
+    ("weights-defined", "1 1 2 5 6 0 0\n1 0 1 1 1 2 2 5 1 6 1\n", &[(1, 3, 4, -2)], &["\n", "5\n", "5 6\n", "1 5 6\n", "1 5\n", "1\n"]),
+    ("weights-choice-defined", "1 1 1 5 0 0\n1 1 2 1 2 1 2 2 5 2 1 2\n", &[(1, 3, 4, -2), (2, 4, 5, -3)], &["\n", "5\n", "1 5\n", "2 5\n", "1 2 5\n", "1\n"]),
+    ("weights-external", "1 0 1 5 1 3 2 1 1 2 2\n", &[(1, 3, 4, -2), (2, 4, 5, -3)], &["\n", "1\n", "2\n", "1 2\n", "1 2 5\n", "2 5\n"]),
+    ("weights-external-negated", "1 0 1 5 1 3 2 -1 1 2 2\n", &[(1, 3, 4, -2), (2, 4, 5, -3)], &["\n", "2\n", "2 5\n", "1 2\n", "1 2 5\n"]),
+    ("weights-external-head", "1 1 1 1 1 1 1 9 1\n", &[(1, 3, 4, -2)], &["\n", "1\n"]),
+    ("weights-external-loop", "1 0 1 5 1 2 3 6 1 1 1 7 1\n1 0 1 6 1 1 2 5 1 1 1\n", &[(1, 3, 4, -2)], &["1 5 6\n", "5 6\n", "1 6\n"]),
+    ("weights-demanded", "1 0 0 1 2 3 -1 1 -2 1 -3 1\n", &[(1, 3, 4, -2), (2, 4, 5, -3), (3, 5, 3, 4)], &["\n", "3\n", "1 2\n", "1 3\n", "2 3\n", "1 2 3\n"]),
+    ("weights-round", "1 1 3 1 2 3 0 0\n1 0 1 4 1 6 3 1 1 2 2 3 3\n", &[(1, 3, 4, -1), (2, 4, 5, -1), (3, 5, 6, -1), (4, 6, 3, 2)], &["1 2 3 4\n", "1 2 3\n", "1 2\n", "4\n"]),
 ];
 
 // The terms of every plan of differences: 0 `diff`, 1 `-`, 2 `<=`; each other name is a string.
@@ -190,9 +277,14 @@ fn pair(name: impl Into<String>, text: impl AsRef<[u8]>, cand: impl AsRef<[u8]>)
 }
 
 // One text with several candidates; the names are numbered.
-fn each(name: &str, text: &str, cands: &[&str]) -> Vec<Pair> {
-    let one = |(i, c): (usize, &&str)| pair(format!("{name}-{i}"), text, c);
-    cands.iter().enumerate().map(one).collect()
+fn each(name: &str, text: &str, cands: &[impl AsRef<[u8]>]) -> Vec<Pair> {
+    cands.iter().enumerate().map(|(i, c)| pair(format!("{name}-{i}"), text, c)).collect()
+}
+
+/// One text with every set of its first atoms as a candidate; the names are numbered by the sets.
+pub fn every(name: &str, text: &str, atoms: u32) -> Vec<Pair> {
+    let set = |bits: u32| -> Vec<u32> { (1..=atoms).filter(|a| bits >> (a - 1) & 1 == 1).collect() };
+    (0..1 << atoms).map(|bits| pair(format!("{name}-{bits}"), text, candidate_of(&set(bits)))).collect()
 }
 
 // Document 01's own list.
@@ -260,7 +352,81 @@ fn published() -> Vec<Pair> {
     let zero = |rules: &str| differences(rules, &[(1, 4, 3, -2), (2, 4, 3, -1)]).replace("9 1 4 1 a\n", "9 0 4 0\n");
     pairs.extend(each("strict-example", &zero("1 0 1 1 0 0\n1 0 1 5 0 1 2\n"), &["1 2 5\n", "1\n", "1 2\n", "1 5\n"]));
     pairs.extend(each("defined-example", &zero("1 0 1 1 0 0\n1 0 1 2 0 1 5\n"), &["1\n", "1 2\n", "1 2 5\n"]));
-    pairs.extend(each("flow-shop", &flow_shop(), FLOW_SHOP));
+    pairs.extend(each("flow-shop", &flow_shop("1 1 6 1 2 3 4 5 6 0 0\n"), FLOW_SHOP));
+    pairs.extend(each("flow-shop-whole", &flow_shop(&permutations()), &flow_shop_answers()));
+    pairs.extend(grounded());
+    pairs.extend(GROUNDED.iter().enumerate().flat_map(answered));
+    pairs
+}
+
+// At least some and at most some of these atoms, as a grounder sends it: of three atoms more, one says that the least are
+// reached, one that more than the most are, and one that the first holds without the second; the last is demanded.
+fn least_most(least: u32, most: u32, atoms: &[u32], first: u32) -> String {
+    let pairs: String = atoms.iter().map(|a| format!(" {a} 1")).collect();
+    let reached = |atom: u32, bound: u32| format!("1 0 1 {atom} 1 {bound} {}{pairs}\n", atoms.len());
+    let (more, both) = (first + 1, first + 2);
+    reached(first, least) + &reached(more, most + 1) + &format!("1 0 1 {both} 0 2 {first} -{more}\n1 0 0 0 1 -{both}\n")
+}
+
+// Forms with bounds and sums, ground: `{a;b;c} = 1`, `1 {a;b;c} 2`, `:- #sum {3:a; 4:b; 5:c} >= 8`, which 002 uses to
+// bound an objective, and `d :- #sum {2:a; 3:not b; 4:c} >= 5`.
+fn grounded() -> Vec<Pair> {
+    let choice = "1 1 3 1 2 3 0 0\n";
+    let of_three = |least: u32, most: u32| text(&(String::from(choice) + &least_most(least, most, &[1, 2, 3], 4)));
+    let mut pairs = each("one-of-three", &of_three(1, 1), &["1 4 6\n", "2 4 6\n", "3 4 6\n", "\n", "1\n", "1 4\n", "1 2 4 5\n", "1 2 4 6\n", "1 2 4 5 6\n", "4 6\n"]);
+    pairs.extend(each("one-or-two", &of_three(1, 2), &["1 4 6\n", "1 3 4 6\n", "1 2 3 4 5\n", "1 2 3 4 6\n", "\n"]));
+    pairs.extend(every("objective", &text(&format!("{choice}1 0 0 1 8 3 1 3 2 4 3 5\n")), 3));
+    pairs.extend(every("sum", &text(&format!("{choice}1 0 1 4 1 5 3 1 2 -2 3 3 4\n")), 4));
+    pairs
+}
+
+/// What gringo 5.4.1 writes for an encoding, how many atoms that has, and the answers that clasp 3.3.5 gives.
+pub struct Grounded {
+    pub encoding: &'static str,
+    pub text: &'static str,
+    pub atoms: u32,
+    pub answers: &'static [&'static str],
+}
+
+/// Encodings with bounds, counts and sums.
+pub const GROUNDED: &[Grounded] = &[
+    Grounded {
+        encoding: "{a;b;c} = 1.",
+        text: "asp 1 0 0\n1 0 1 1 0 0\n1 1 3 2 3 4 0 1 1\n1 0 1 5 1 1 3 2 1 3 1 4 1\n1 0 1 6 1 2 3 2 1 3 1 4 1\n1 0 1 7 0 2 5 -6\n1 0 0 0 2 1 -7\n4 1 a 1 4\n4 1 b 1 3\n4 1 c 1 2\n0\n",
+        atoms: 7,
+        answers: &["1 3 5 7\n", "1 4 5 7\n", "1 2 5 7\n"],
+    },
+    Grounded {
+        encoding: "2 {a;b;c}.",
+        text: "asp 1 0 0\n1 0 1 1 0 0\n1 1 3 2 3 4 0 1 1\n1 0 1 5 1 2 3 2 1 3 1 4 1\n1 0 0 0 2 1 -5\n4 1 a 1 4\n4 1 b 1 3\n4 1 c 1 2\n0\n",
+        atoms: 5,
+        answers: &["1 3 4 5\n", "1 2 3 4 5\n", "1 2 4 5\n", "1 2 3 5\n"],
+    },
+    Grounded {
+        encoding: "{a;b;c}. d :- #count {1:a; 2:b; 3:c} >= 2.",
+        text: "asp 1 0 0\n1 1 3 1 2 3 0 0\n1 0 1 4 1 2 3 1 1 2 1 3 1\n1 0 1 5 0 1 4\n4 1 a 1 1\n4 1 b 1 2\n4 1 c 1 3\n4 1 d 1 5\n0\n",
+        atoms: 5,
+        answers: &["1 2 3 4 5\n", "1 2 4 5\n", "2 3 4 5\n", "\n", "3\n", "1\n", "2\n", "1 3 4 5\n"],
+    },
+    Grounded {
+        encoding: "{a;b;c}. :- #sum {3,a:a; 4,b:b; 5,c:c} >= 8.",
+        text: "asp 1 0 0\n1 1 3 1 2 3 0 0\n1 0 1 4 1 8 3 1 3 2 4 3 5\n1 0 0 0 1 4\n4 1 a 1 1\n4 1 b 1 2\n4 1 c 1 3\n0\n",
+        atoms: 4,
+        answers: &["\n", "2\n", "1\n", "1 2\n", "3\n"],
+    },
+    Grounded {
+        encoding: "{a;b}. c :- #sum {2:a; 3:not b; 4,z:a} > 4.",
+        text: "asp 1 0 0\n1 1 2 1 2 0 0\n1 0 1 3 1 5 3 1 2 -2 3 1 4\n1 0 1 4 0 1 3\n4 1 a 1 1\n4 1 b 1 2\n4 1 c 1 4\n0\n",
+        atoms: 4,
+        answers: &["\n", "2\n", "1 3 4\n", "1 2 3 4\n"],
+    },
+];
+
+// A grounded encoding with its answers, and each of these without its first atom.
+fn answered((i, grounded): (usize, &Grounded)) -> Vec<Pair> {
+    let less = |a: &&str| a.split_once(' ').map_or(String::from("\n"), |(_, rest)| rest.to_string());
+    let mut pairs = each(&format!("gringo-{i}"), grounded.text, grounded.answers);
+    pairs.extend(each(&format!("gringo-{i}-less"), grounded.text, &grounded.answers.iter().map(less).collect::<Vec<_>>()));
     pairs
 }
 
@@ -277,32 +443,74 @@ const FLOW_SHOP: &[&str] = &[
     "2 3 11 12 13 20 21 22 23 24 25 33 34 35\n",
 ];
 
-// The flow shop of 002, Listings 39 and 40, ground: atoms 1 to 6 choose which task is next to which, in pairs ab, ac,
-// ba, bc, ca, cb; 11 to 13 are a task's two machines, 20 to 25 say 0 - (T,M) <= 0, 31 to 42 two machines of each pair.
-fn flow_shop() -> String {
+// The pairs of tasks a, b and c.
+const NEXTS: [(usize, usize); 6] = [(0, 1), (0, 2), (1, 0), (1, 2), (2, 0), (2, 1)];
+
+// The flow shop of 002, Listings 39 and 40, ground: atoms 1 to 6 say which task is next to which, in pairs ab, ac, ba,
+// bc, ca, cb, by the rules given; 11 to 13 are a task's two machines, 20 to 25 say 0 - (T,M) <= 0, 31 to 42 two machines
+// of each pair.
+fn flow_shop(next: &str) -> String {
     // Term 3 is the number 0; the terms 4 to 9 are (a,1), (a,2), (b,1), (b,2), (c,1), (c,2).
     let durations = [[3, 4], [1, 6], [5, 5]];
     let name = |task: usize, machine: usize| (4 + 2 * task + machine) as u32;
-    let nexts = [(0, 1), (0, 2), (1, 0), (1, 2), (2, 0), (2, 1)];
-    let mut rules = String::from("1 1 6 1 2 3 4 5 6 0 0\n");
+    let mut rules = String::from(next);
     let mut list = Vec::new();
-    for task in 0..3 {
+    for (task, times) in durations.iter().enumerate() {
         let atom = 11 + task as u32;
         rules += &format!("1 0 1 {atom} 0 0\n");
-        list.push((atom, name(task, 0), name(task, 1), -durations[task][0]));
+        list.push((atom, name(task, 0), name(task, 1), -times[0]));
     }
     for i in 0..6 {
         rules += &format!("1 0 1 {} 0 0\n", 20 + i);
         list.push((20 + i, 3, 4 + i, 0));
     }
-    for (i, (first, second)) in nexts.into_iter().enumerate() {
-        for machine in 0..2 {
+    for (i, (first, second)) in NEXTS.into_iter().enumerate() {
+        for (machine, time) in durations[first].iter().enumerate() {
             let atom = (31 + 2 * i + machine) as u32;
             rules += &format!("1 0 1 {atom} 0 1 {}\n", 1 + i);
-            list.push((atom, name(first, machine), name(second, machine), -durations[first][machine]));
+            list.push((atom, name(first, machine), name(second, machine), -time));
         }
     }
     differences(&rules, &list).replace("9 1 3 1 a\n", "9 0 3 0\n")
+}
+
+// The cycle and the start behind each of the six answers.
+const CYCLES: [&str; 6] = ["52 53 56 58", "52 53 56 59", "52 53 56 57", "51 54 55 58", "51 54 55 57", "51 54 55 59"];
+
+// The six answers with all that holds in the whole encoding, then two that are wrong: two starts, counted as one and as
+// more than one.
+fn flow_shop_answers() -> Vec<String> {
+    let whole = |(answer, cycle): (&&str, &str)| {
+        format!("{} {cycle} 60 61 62 70 72 73 75 76 78 79 81 82 84 85 87 88 90\n", answer.trim_end())
+    };
+    let mut cands: Vec<String> = FLOW_SHOP.iter().zip(CYCLES).map(whole).collect();
+    cands.push(cands[2].replace(" 57 ", " 57 58 "));
+    cands.push(cands[6].replace(" 90\n", " 89\n"));
+    cands
+}
+
+// The cycle's atoms for the pairs that have a task on a side.
+fn cycle_at(task: usize, side: fn(&(usize, usize)) -> usize) -> Vec<u32> {
+    (51..).zip(&NEXTS).filter(|(_, next)| side(next) == task).map(|(atom, _)| atom).collect()
+}
+
+// Lines 1 to 8 of Listing 40, ground: atoms 51 to 56 are the cycle in the same pairs, 57 to 59 the start, 60 to 62 what
+// is reached; 70 to 90 say how many hold of the pairs from each task, to each task, and of the starts.
+fn permutations() -> String {
+    let mut groups: Vec<Vec<u32>> = (0..3).map(|task| cycle_at(task, |next| next.0)).collect();
+    groups.extend((0..3).map(|task| cycle_at(task, |next| next.1)));
+    groups.push(vec![57, 58, 59]);
+    let mut rules = String::new();
+    for (atoms, first) in groups.iter().zip((70..).step_by(3)) {
+        let head: String = atoms.iter().map(|a| format!(" {a}")).collect();
+        rules += &format!("1 1 {}{head} 0 0\n{}", atoms.len(), least_most(1, 1, atoms, first));
+    }
+    rules += "1 0 1 60 0 0\n";
+    for (i, (from, to)) in NEXTS.into_iter().enumerate() {
+        let (next, cycle) = (1 + i, 51 + i);
+        rules += &format!("1 0 1 {} 0 2 {} {cycle}\n1 0 1 {next} 0 2 {cycle} -{}\n", 60 + to, 60 + from, 57 + to);
+    }
+    rules + "1 0 0 0 1 -60\n1 0 0 0 1 -61\n1 0 0 0 1 -62\n"
 }
 
 /// The pairs.
@@ -310,6 +518,7 @@ pub fn pairs() -> Vec<Pair> {
     let mut pairs = document();
     pairs.extend(published());
     pairs.extend(PROGRAMS.iter().flat_map(|(name, lines, cands)| each(name, &text(lines), cands)));
+    pairs.extend(WEIGHTS.iter().flat_map(|(name, lines, atoms)| every(name, &text(lines), *atoms)));
     pairs.extend(DIFFERENCES.iter().flat_map(|(name, rules, list, cands)| each(name, &differences(rules, list), cands)));
     pairs.extend(changed());
     pairs.extend(ordered());

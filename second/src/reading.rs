@@ -12,6 +12,8 @@ pub const LARGEST_ATOM: u32 = 4_096;
 pub const LARGEST_INDEX: u32 = 1_023;
 pub const LARGEST_COUNT: u64 = 4_096;
 pub const LARGEST_NUMBER: i64 = 1_000_000;
+pub const LARGEST_BOUND: u64 = 1_000_000_000;
+pub const LARGEST_WEIGHT: u64 = 100_000;
 
 const FIRST_LINE: &[u8; 9] = b"asp 1 0 0";
 
@@ -20,6 +22,20 @@ const FIRST_LINE: &[u8; 9] = b"asp 1 0 0";
 pub struct Literal {
     pub atom: u32,
     pub negated: bool,
+}
+
+/// A literal of a weight body, with its weight.
+#[derive(Clone, Copy, Debug, PartialEq, Eq)]
+pub struct Weighted {
+    pub literal: Literal,
+    pub weight: u32,
+}
+
+/// A rule's body: literals; or a lower bound, and literals with weights.
+#[derive(Clone, Debug, PartialEq, Eq)]
+pub enum Body {
+    Normal(Vec<Literal>),
+    Weights { bound: u32, literals: Vec<Weighted> },
 }
 
 /// What a compound is built with.
@@ -34,7 +50,7 @@ pub enum Base {
 /// One statement of the text.
 #[derive(Clone, Debug, PartialEq, Eq)]
 pub enum Statement {
-    Rule { choice: bool, head: Vec<u32>, body: Vec<Literal> },
+    Rule { choice: bool, head: Vec<u32>, body: Body },
     Output { string: Vec<u8>, condition: Vec<Literal> },
     Number { term: u32, value: i32 },
     Symbol { term: u32, string: Vec<u8> },
@@ -123,18 +139,19 @@ fn theory_type(value: u64) -> Finding {
     }
 }
 
-// Head kinds: 0 plain, 1 choice.
-fn head_kind(value: u64) -> Finding {
+// Head kinds: 0 plain, 1 choice; body kinds: 0 normal, 1 weights.
+fn two_kinds(value: u64) -> Finding {
     within(value, 0, 1, GRAMMAR)
 }
 
-// Body kinds: 0 normal; 1 is a weight body.
-fn body_kind(value: u64) -> Finding {
-    match value {
-        0 => Finding::Right,
-        1 => Finding::Wrong(NOT_CARRIED),
-        _ => Finding::Wrong(GRAMMAR),
-    }
+// The lower bound of a weight body.
+fn body_bound(value: u64) -> Finding {
+    within(value, 0, LARGEST_BOUND, BEYOND)
+}
+
+// A literal's weight.
+fn weight_value(value: u64) -> Finding {
+    within(value, 1, LARGEST_WEIGHT, BEYOND)
 }
 
 // Counts and string lengths.
@@ -209,6 +226,19 @@ fn literals(fields: &mut Fields) -> Result<Vec<Literal>, Refusal> {
     (0..n).map(|_| literal(fields)).collect()
 }
 
+// A space, a literal, a space, and its weight.
+fn weighted(fields: &mut Fields) -> Result<Weighted, Refusal> {
+    let literal = literal(fields)?;
+    let weight = next_small(fields, weight_value)?;
+    Ok(Weighted { literal, weight })
+}
+
+// A space, a count, and that many literals with their weights.
+fn weighted_literals(fields: &mut Fields) -> Result<Vec<Weighted>, Refusal> {
+    let n = next_natural(fields, count)?;
+    (0..n).map(|_| weighted(fields)).collect()
+}
+
 // A space, a count, and that many term or element numbers.
 fn indices(fields: &mut Fields) -> Result<Vec<u32>, Refusal> {
     let n = next_natural(fields, count)?;
@@ -224,12 +254,20 @@ fn string(fields: &mut Fields) -> Result<Vec<u8>, Refusal> {
 
 // A rule after its type: head, then body.
 fn rule(fields: &mut Fields) -> Result<Statement, Refusal> {
-    let choice = next_natural(fields, head_kind)? == 1;
+    let choice = next_natural(fields, two_kinds)? == 1;
     let n = next_natural(fields, if choice { count } else { plain_count })?;
     let head = (0..n).map(|_| next_small(fields, head_atom)).collect::<Result<_, _>>()?;
-    next_natural(fields, body_kind)?;
-    let body = literals(fields)?;
+    let body = body(fields)?;
     Ok(Statement::Rule { choice, head, body })
+}
+
+// A body: its kind, then literals, or a bound and literals with weights.
+fn body(fields: &mut Fields) -> Result<Body, Refusal> {
+    if next_natural(fields, two_kinds)? == 0 {
+        return Ok(Body::Normal(literals(fields)?));
+    }
+    let bound = next_small(fields, body_bound)?;
+    Ok(Body::Weights { bound, literals: weighted_literals(fields)? })
 }
 
 // An output statement after its type.

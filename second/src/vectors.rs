@@ -1,4 +1,4 @@
-//! The reader's test vectors, from document 01, "Reading the text" and "The candidate", and the decided points.
+//! The reader's test vectors, from document 01, "Reading the text" and "The candidate", document 02 and the decided points.
 
 use crate::container::Case;
 use crate::{describe, describe_candidate};
@@ -22,6 +22,8 @@ enum Field {
     Head,
     Plain,
     Body,
+    Bound,
+    Weight,
     Count,
     Atom,
     Named,
@@ -36,6 +38,7 @@ enum Field {
 const LINES: &[(&str, &[Field])] = &[
     ("1 0 1 5 0 1 7", &[Field::Type, Field::Head, Field::Plain, Field::Atom, Field::Body, Field::Count, Field::Literal]),
     ("1 1 2 5 6 0 2 7 -8", &[Field::Type, Field::Head, Field::Count, Field::Atom, Field::Atom, Field::Body, Field::Count, Field::Literal, Field::Literal]),
+    ("1 0 1 5 1 3 2 7 2 -8 1", &[Field::Type, Field::Head, Field::Plain, Field::Atom, Field::Body, Field::Bound, Field::Count, Field::Literal, Field::Weight, Field::Literal, Field::Weight]),
     ("4 2 ab 1 -3", &[Field::Type, Field::Count, Field::Bytes, Field::Count, Field::Literal]),
     ("9 0 12 -34", &[Field::Type, Field::Theory, Field::Index, Field::Number]),
     ("9 1 12 2 ab", &[Field::Type, Field::Theory, Field::Index, Field::Count, Field::Bytes]),
@@ -52,7 +55,9 @@ fn tried(field: Field) -> &'static [&'static str] {
         Field::Theory => &["", "00", "-0", "3", "7"],
         Field::Head => &["", "00", "-1", "2"],
         Field::Plain => &["", "01", "-1", "0", "2", "5000"],
-        Field::Body => &["", "00", "-1", "1", "2"],
+        Field::Body => &["", "00", "-1", "0", "1", "2", "4294967297"],
+        Field::Bound => &["", "03", "-1", "-0", "0", "1", "1000000000", "1000000001", "18446744073709551617"],
+        Field::Weight => &["", "02", "-1", "-0", "0", "1", "100000", "100001", "18446744073709551617"],
         Field::Count => &["", "01", "-1", "0", "4096", "4097"],
         Field::Atom => &["", "05", "-5", "0", "1", "4096", "4097"],
         Field::Named => &["", "01", "-1", "0", "1", "4096", "4097"],
@@ -70,6 +75,12 @@ const SINGLE: &[&[u8]] = &[
     b"", b" ", b"2", b"3", b"5", b"6", b"7", b"8", b"2 0 1 1 1", b"3 1 1", b"5 1 0", b"6 1 1", b"7 0 1 1 1 0", b"8 0 1 0", b"2x 0", b"5\t", b"11", b"12 x", b"99999999999", b"x", b"+1 0 0 0 0", b"1", b"4", b"9", b"9 x", b"9 8", b"9 99999999999",
     // Heads and bodies.
     b"1 0 0 0 0", b"1 1 0 0 0", b"1 0 2 1 2 0 0", b"1 0 4097 1 0 0", b"1 1 3 1 1 2 0 3 -1 1 1", b"1 1 1 0 0 0", b"1 0 0 1 2 1 1 1", b"1 0 0 1", b"1 0 0 1x 1", b"1 0 0 0 1", b"1 0 0 0 2 3", b"1 0 0 0 0 5", b"1 0 1 0 0",
+    // Weight bodies: the bound.
+    b"1 0 1 1 1", b"1 0 1 1 1 ", b"1 0 1 1 1 0", b"1 0 1 1 1 0 0", b"1 0 0 1 0 0", b"1 0 0 1 1 0", b"1 1 0 1 0 0", b"1 0 1 1 1 1000000000 0", b"1 0 1 1 1 1000000001 0", b"1 0 1 1 1 1000000001", b"1 0 1 1 1 1000000001x 0", b"1 0 1 1 1 99999999999999999999 0", b"1 0 1 1 1 4294967296 0", b"1 0 1 1 1 -1 0", b"1 0 1 1 1 -1000000001 0", b"1 0 1 1 1 x 0", b"1 0 1 1 1  0", b"1 0 1 1 2 0", b"1 0 1 1 2 1 1 2 1", b"1 0 1 1 3 0 0", b"1 0 2 1 2 1 0 0",
+    // Weight bodies: the count, which counts pairs; fields that are missing and fields too many.
+    b"1 0 1 1 1 1", b"1 0 1 1 1 1 4097", b"1 0 1 1 1 1 4096 2", b"1 0 1 1 1 1 -1", b"1 0 1 1 1 1 1", b"1 0 1 1 1 1 1 2", b"1 0 1 1 1 1 2 2 1", b"1 0 1 1 1 1 2 2 1 3", b"1 0 1 1 1 1 2 2 3", b"1 0 1 1 1 1 1 2 1 3", b"1 0 1 1 1 1 1 2 1 3 1", b"1 0 1 1 1 0 0 1", b"1 0 1 1 1 1 1 2 1 ",
+    // Weight bodies: literals and weights.
+    b"1 0 1 1 1 1 1 0 0", b"1 0 1 1 1 1 1 0 1", b"1 0 1 1 1 1 1 4097 0", b"1 0 1 1 1 1 1 2 0", b"1 0 1 1 1 1 1 2 100000", b"1 0 1 1 1 1 1 2 100001", b"1 0 1 1 1 1 1 2 1000000", b"1 0 1 1 1 1 1 2 4294967297", b"1 0 1 1 1 1 1 2 -1", b"1 0 1 1 1 1 1 2 -100001", b"1 0 1 1 1 1 1 2 x", b"1 0 1 1 1 1 1 2 1x", b"1 0 1 1 1 1 1 2  1", b"1 0 1 1 1 1 1 2\t1", b"1 0 1 1 1 1 1 2 1\r", b"1 0 1 1 1 2 2 1 1 1 1", b"1 0 1 1 1 2 3 2 1 -2 1 2 3", b"1 1 1 5 1 9 1 -7 9", b"1 1 2 4096 4096 1 1000000000 2 4096 100000 -4096 100000",
     // Separators: doubled, at the ends, a tab, 13, a byte 0.
     b"1  0 0 0 0", b"1 0 0 0  0", b" 1 0 0 0 0", b"1 0 0 0 0 ", b"1 0 0 0 1 1 ", b"1 0 0 0 0\t", b"1\t0 0 0 0", b"1 0 0 0 0\r", b"1 0 0 0 1 \t1", b"1 0 0 0 0\0", b"1 0 0 0 1 1\x80", b"9 0 1 2\xff", b"9 0 1\r2",
     // Strings.
@@ -87,7 +98,7 @@ const BEHIND: &[&[u8]] = &[
     // The line `0`, and bytes after it; no such line.
     b"", b"0", b"0\n", b"0 ", b"0 \n", b"0\r\n", b"0\t\n", b"0\n ", b"0\n\n", b"0\n0\n", b"0\n10 x\n0\n", b"0\n\0", b"0x\n", b"00\n", b"-0\n", b"\n", b"\n0\n", b" 0\n", b"1 0 0 0 0\n", b"1 0 0 0 0\n\n0\n", b"asp 1 0 0\n0\n", b"10 a\n10 b\n0\n",
     // A field at the end of the text: its form, then what is carried and its range, then the early end.
-    b"2", b"1", b"11", b"01", b"1 ", b"1 0 2", b"1 0 1", b"1 0 1 1 0 1 -", b"1 0 1 1 0 1 1", b"1 0 1 1 0 1 0", b"1 0 1 1 0 1 4097", b"9 5 0", b"9 3", b"1 0 0 1", b"1 1 4096 1", b"1 1 4097 1", b"9 0 0 -0",
+    b"2", b"1", b"11", b"01", b"1 ", b"1 0 2", b"1 0 1", b"1 0 1 1 0 1 -", b"1 0 1 1 0 1 1", b"1 0 1 1 0 1 0", b"1 0 1 1 0 1 4097", b"9 5 0", b"9 3", b"1 0 0 1", b"1 0 0 2", b"1 0 0 1 1", b"1 0 0 1 1000000001", b"1 0 0 1 -", b"1 0 0 1 1 1", b"1 0 0 1 1 1 2", b"1 0 0 1 1 1 2 0", b"1 0 0 1 1 1 2 1", b"1 1 4096 1", b"1 1 4097 1", b"9 0 0 -0",
     // Strings and comments at the end of the text.
     b"9 1 0 3 ab", b"9 1 0 3 abc", b"9 1 0 9 a\0b", b"9 1 0 9 a\nb", b"9 1 0 9 ", b"9 1 0 9", b"9 1 0 0 ", b"9 1 0 0", b"9 1 0 4097", b"10", b"10 ", b"10 abc", b"10 a\0c", b"4 1 a 0",
 ];
@@ -156,7 +167,7 @@ fn systematic() -> Vec<Case> {
     LINES.iter().flat_map(each).collect()
 }
 
-// Numbers of a thousand digits, as a type, a count, an atom, a literal and a numeric term.
+// Numbers of a thousand digits, as a type, an atom, a literal, a bound, a weight and a numeric term.
 fn long_numbers() -> Vec<Case> {
     let long = format!("7{}", "0".repeat(999));
     let text = |line: String| [HEADER, line.as_bytes(), b"\n0\n"].concat();
@@ -164,6 +175,8 @@ fn long_numbers() -> Vec<Case> {
         named("long-type", text(format!("{long} x"))),
         named("long-atom", text(format!("1 0 1 {long} 0 0"))),
         named("long-literal", text(format!("1 0 0 0 1 -{long}"))),
+        named("long-bound", text(format!("1 0 0 1 {long} 0"))),
+        named("long-weight", text(format!("1 0 0 1 1 1 2 {long}"))),
         named("long-zeros", text(format!("9 0 0 {}", "0".repeat(1000)))),
     ]
 }
@@ -192,6 +205,7 @@ fn published() -> Vec<Case> {
         named("slides-theory", LISTING_50.replace("9 1 8 5 start", "9 1 8 3 beg")),
         named("listing-49-minimize", LISTING_49.replace("4 1 a", "2 0 1 1 1\n4 1 a")),
         named("listing-49-weights", LISTING_49.replace("1 0 1 2 0 1 1", "1 0 1 2 1 1 1 1 1")),
+        named("listing-49-disjunction", LISTING_49.replace("1 0 1 2 0 1 1", "1 0 2 2 3 0 1 1")),
     ]
 }
 

@@ -2,7 +2,7 @@
 //! times. Only with PLAN_JUDGE_LIB (see build.rs). PLAN_JUDGE_SEED chooses other inputs, PLAN_JUDGE_TIMES more of them.
 #![cfg(plan_judge)]
 mod common;
-use common::{further, judged_by, q, refused, wrap, P};
+use common::{check_heaviest, check_traps, further, judged_by, q, refused, wrap, P};
 use second::judging::{CYCLE_PLACES, ROOM_BYTES};
 use second::random::Random;
 use second::{check_cycle, generating, proved, timetable, Refusal, Verdict};
@@ -179,9 +179,16 @@ fn other_examples() {
 }
 
 #[test]
+fn weights() {
+    check_traps(|text, cand| compare(text, cand));
+    check_heaviest(|text, cand| compare(text, cand));
+}
+
+#[test]
 fn every_cut_of_plan_p() {
     let mut both = Both::wide(3);
-    for text in [P.to_string(), q()] {
+    let weights = P.replace("1 0 1 2 0 1 1\n", "1 0 1 2 1 7 3 1 3 3 4 -2 1\n");
+    for text in [P.to_string(), q(), weights] {
         for end in 0..text.len() {
             both.compare(&text.as_bytes()[..end], b"1 2 3\n");
             for byte in [0, 9, 10, 13, 32, b'-', b'0', b'1', b'9', 255] {
@@ -247,6 +254,17 @@ fn long_texts() {
     }
 }
 
+#[test]
+fn the_shortest_lines() {
+    let mut both = Both::wide(6);
+    for line in ["1 1 0 0 0\n", "1 1 0 1 0 0\n", "10 \n", "4 0  0\n"] {
+        for length in (1_980..2_020).chain(59_980..=60_000) {
+            let text = wrap(&line.repeat((length - 12) / line.len()));
+            assert_eq!(both.compare(text.as_bytes(), b"\n"), Verdict::Accepted(16));
+        }
+    }
+}
+
 // A choice over atoms from 1 to some.
 fn choice(atoms: u32) -> String {
     let all: Vec<String> = (1..=atoms).map(|a| a.to_string()).collect();
@@ -299,6 +317,13 @@ fn long_chains() {
         both.compare(&text, &all_atoms(atoms as u32 - 1));
         both.compare(&text, &all_atoms(atoms as u32 + 1));
     }
+    for (atoms, rounds) in [(4, 4), (30, 1), (30, 7), (1400, 1), (1400, 40), (1400, 1400)] {
+        let (text, cand) = generating::weight_chain(atoms, rounds, true);
+        assert_eq!(both.compare(&text, &cand), Verdict::Accepted(16 + 4 * atoms as u32));
+        both.compare(&text, &all_atoms(atoms as u32 - 1));
+        let (text, cand) = generating::weight_chain(atoms, rounds, false);
+        assert_eq!(both.compare(&text, &cand), refused(9, 1));
+    }
 }
 
 #[test]
@@ -330,10 +355,10 @@ fn damaged() {
 
 // Fields of any kind in lines of any length, often with the header and the `0` line.
 fn any_text(random: &mut Random) -> Vec<u8> {
-    let words = ["0", "1", "2", "3", "4", "5", "6", "9", "10", "-1", "-2", "-3", "-4", "12", "1023", "1024", "4096", "4097", "a", "", "00", "diff", "-", "<="];
+    let words = ["0", "1", "2", "3", "4", "5", "6", "9", "10", "-1", "-2", "-3", "-4", "12", "1023", "1024", "4096", "4097", "100001", "1000000001", "a", "", "00", "diff", "-", "<="];
     let mut text = if random.once_in(20) { vec![] } else { b"asp 1 0 0\n".to_vec() };
     for _ in 0..random.below(5) {
-        let first = ["1 0", "1 1", "4 1 a", "9 0", "9 1", "9 2", "9 4", "9 5", "9 6", "10 x"];
+        let first = ["1 0", "1 1", "1 0 1 1 1", "4 1 a", "9 0", "9 1", "9 2", "9 4", "9 5", "9 6", "10 x"];
         text.extend(random.one_of(&first).as_bytes());
         for _ in 0..random.below(8) {
             text.push(if random.once_in(200) { random.below(256) as u8 } else { b' ' });

@@ -1,9 +1,10 @@
 //! Cross-checks against slow definitions.
 mod common;
+use common::writing::written;
 use common::*;
 use second::generating;
 use second::random::Random;
-use second::{check_cycle, describe, read_candidate, read_text, terms, time, Difference, Line, Refusal, Statement, Verdict};
+use second::{check_cycle, describe, read_candidate, read_text, terms, time, Body, Difference, Line, Literal, Refusal, Statement, Verdict, Weighted};
 use std::collections::BTreeMap;
 
 // A set of the atoms 1 to 20 as bits.
@@ -14,16 +15,28 @@ fn bit(atom: u32) -> Bits {
     1 << atom
 }
 
-// Whether a rule's body is true with the positive atoms from one set, the negated from another.
-fn body_true(statement: &Statement, positive: Bits, negated: Bits) -> bool {
-    let Statement::Rule { body, .. } = statement else { return false };
-    body.iter().all(|l| if l.negated { negated & bit(l.atom) == 0 } else { positive & bit(l.atom) != 0 })
+// Whether a literal is true with the positive atoms from one set, the negated from another.
+fn literal_true(literal: &Literal, positive: Bits, negated: Bits) -> bool {
+    if literal.negated { negated & bit(literal.atom) == 0 } else { positive & bit(literal.atom) != 0 }
+}
+
+// Whether a body is true with the positive atoms from one set, the negated from another. With a model of the reduct and
+// the set that it is by, this is the body in the reduct: no literal is left out and nothing is taken off a bound.
+fn body_true(body: &Body, positive: Bits, negated: Bits) -> bool {
+    match body {
+        Body::Normal(literals) => literals.iter().all(|l| literal_true(l, positive, negated)),
+        Body::Weights { bound, literals } => {
+            let weight = |w: &Weighted| if literal_true(&w.literal, positive, negated) { i64::from(w.weight) } else { 0 };
+            let missing = literals.iter().fold(i64::from(*bound), |missing, w| missing - weight(w));
+            missing <= 0
+        }
+    }
 }
 
 // Whether a plain rule is satisfied by X.
 fn satisfied(statement: &Statement, x: Bits) -> bool {
     match statement {
-        Statement::Rule { choice: false, head, .. } => !body_true(statement, x, x) || head.iter().any(|a| x & bit(*a) != 0),
+        Statement::Rule { choice: false, head, body } => !body_true(body, x, x) || head.iter().any(|a| x & bit(*a) != 0),
         _ => true,
     }
 }
@@ -31,10 +44,10 @@ fn satisfied(statement: &Statement, x: Bits) -> bool {
 // Whether Y is a model of the reduct by X, externals as facts.
 fn models_reduct(lines: &[Line], facts: Bits, y: Bits, x: Bits) -> bool {
     let rule = |s: &Statement| match s {
-        Statement::Rule { choice: true, head, .. } => {
-            !body_true(s, y, x) || head.iter().all(|a| x & bit(*a) == 0 || y & bit(*a) != 0)
+        Statement::Rule { choice: true, head, body } => {
+            !body_true(body, y, x) || head.iter().all(|a| x & bit(*a) == 0 || y & bit(*a) != 0)
         }
-        Statement::Rule { head, .. } => !body_true(s, y, x) || head.iter().any(|a| y & bit(*a) != 0),
+        Statement::Rule { head, body, .. } => !body_true(body, y, x) || head.iter().any(|a| y & bit(*a) != 0),
         _ => true,
     };
     y & facts == facts && lines.iter().all(|l| rule(&l.statement))
@@ -222,7 +235,7 @@ fn small_plan(text: &[u8]) -> bool {
     let lines = read_text(text).unwrap();
     terms(&lines).unwrap().iter().all(|d| d.atom < 20)
         && lines.iter().all(|l| match &l.statement {
-            Statement::Rule { head, body, .. } => head.iter().all(|a| *a < 20) && body.iter().all(|l| l.atom < 20),
+            Statement::Rule { head, body, .. } => head.iter().all(|a| *a < 20) && literals_of(body).iter().all(|l| l.atom < 20),
             _ => true,
         })
 }
@@ -338,43 +351,6 @@ fn loose_theories() {
     }
     println!("{{loose {counts:?}}}");
     assert!(counts.iter().all(|n| *n > 5_000), "{counts:?}");
-}
-
-// A readable line has one spelling: written again from what was read, it is the same.
-fn written(statement: &Statement) -> Vec<u8> {
-    fn words(front: &str, parts: &[Vec<i64>]) -> Vec<u8> {
-        let all: Vec<String> = parts.concat().iter().map(i64::to_string).collect();
-        [vec![front.to_string()], all].concat().join(" ").into_bytes()
-    }
-    let counted = |v: &[u32]| [vec![v.len() as i64], v.iter().map(|a| i64::from(*a)).collect()].concat();
-    let literals = |v: &[second::Literal]| {
-        let code = |l: &second::Literal| if l.negated { -i64::from(l.atom) } else { i64::from(l.atom) };
-        [vec![v.len() as i64], v.iter().map(code).collect()].concat()
-    };
-    let one = |n: u32| vec![i64::from(n)];
-    match statement {
-        Statement::Rule { choice, head, body } => words("1", &[one(u32::from(*choice)), counted(head), vec![0], literals(body)]),
-        Statement::Output { string, condition } => {
-            [words("4", &[vec![string.len() as i64]]), b" ".to_vec(), string.clone(), words("", &[literals(condition)])].concat()
-        }
-        Statement::Number { term, value } => words("9 0", &[one(*term), vec![i64::from(*value)]]),
-        Statement::Symbol { term, string } => [words("9 1", &[one(*term), vec![string.len() as i64]]), b" ".to_vec(), string.clone()].concat(),
-        Statement::Compound { term, base, arguments } => {
-            let t = match base {
-                second::Base::Tuple => -1,
-                second::Base::Set => -2,
-                second::Base::List => -3,
-                second::Base::Term(t) => i64::from(*t),
-            };
-            words("9 2", &[one(*term), vec![t], counted(arguments)])
-        }
-        Statement::Element { element, terms, condition } => words("9 4", &[one(*element), counted(terms), literals(condition)]),
-        Statement::Theory { atom, name, elements, guard } => match guard {
-            None => words("9 5", &[one(*atom), one(*name), counted(elements)]),
-            Some((g, u)) => words("9 6", &[one(*atom), one(*name), counted(elements), one(*g), one(*u)]),
-        },
-        Statement::Comment { bytes } => [b"10 ".to_vec(), bytes.clone()].concat(),
-    }
 }
 
 #[test]

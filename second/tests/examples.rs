@@ -1,4 +1,4 @@
-//! The examples of document 01.
+//! The examples of document 01, and those of the requests.
 mod common;
 use common::*;
 use second::{check_cycle, report, show, time, Refusal, Verdict};
@@ -70,6 +70,11 @@ fn loops_and_negation() {
 }
 
 #[test]
+fn weights() {
+    check_traps(|text, cand| verdict(text, cand));
+}
+
+#[test]
 fn a_cycle_of_one() {
     let text = wrap("9 1 0 4 diff\n9 1 1 1 -\n9 1 2 2 <=\n9 0 3 0\n9 2 4 1 2 3 3\n9 4 0 1 4 0\n9 0 5 -1\n9 6 7 0 1 0 2 5\n");
     let got = judged(text.as_bytes(), b"7\n");
@@ -118,7 +123,10 @@ fn published_listings() {
 #[test]
 fn described() {
     let text = wrap("1 1 2 1 2 0 2 3 -4\n4 2 a  0\n9 0 5 -7\n9 1 1 0 \n9 2 6 -3 1 4\n9 4 0 1 6 1 -9\n9 5 2 0 1 0\n9 6 2 0 1 0 2 5\n10 hi\n10 \n1 0 0 0 0\n");
-    let wanted = "read 11\n1 10 1 2 1 2 2 6 9\n4 29 2 97 32 0\n90 38 5 15\n91 47 1 0\n92 56 6 7 1 4\n94 69 0 1 6 1 19\n95 84 2 0 1 0\n96 96 2 0 1 0 2 5\n10 112 2 104 105\n10 118 0\n1 122 0 0 0\n";
+    let wanted = "read 11\n1 10 1 2 1 2 0 0 2 6 9\n4 29 2 97 32 0\n90 38 5 15\n91 47 1 0\n92 56 6 7 1 4\n94 69 0 1 6 1 19\n95 84 2 0 1 0\n96 96 2 0 1 0 2 5\n10 112 2 104 105\n10 118 0\n1 122 0 0 0 0 0\n";
+    assert_eq!(second::describe(text.as_bytes()), wanted);
+    let text = wrap("1 0 1 6 1 2 3 1 1 -2 3 4096 100000\n1 1 0 1 1000000000 0\n");
+    let wanted = "read 2\n1 10 0 1 6 1 2 3 16386 49157 1638408192\n1 45 1 0 1 1000000000 0\n";
     assert_eq!(second::describe(text.as_bytes()), wanted);
     assert_eq!(second::describe(b"asp 1 0 0\n"), "refused 3 10\n");
     assert_eq!(second::describe_candidate(b"\n"), "candidate 0\n");

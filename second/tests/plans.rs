@@ -1,6 +1,6 @@
 //! The judge's vectors.
 use second::container::{read, write};
-use second::plans::{cases, long, paired, pairs, run, Pair};
+use second::plans::{cases, every, long, paired, pairs, run, Pair, GROUNDED};
 use second::{judge, read_candidate, read_text, report, terms, Difference, Refusal, Verdict};
 use std::collections::HashSet;
 
@@ -50,8 +50,21 @@ fn flow_shop_is_as_published() {
     let published = [[1, 7, 0, 1, 4, 11], [6, 16, 5, 10, 0, 5], [0, 3, 8, 13, 3, 8], [6, 12, 0, 1, 1, 7], [0, 3, 3, 7, 4, 13], [5, 10, 8, 14, 0, 5]];
     for (i, times) in published.into_iter().enumerate() {
         let lines: String = (4..).zip(times).map(|(term, time)| format!("{term} {time}\n")).collect();
-        let Pair { text, cand, .. } = named(&format!("flow-shop-{i}"));
-        assert_eq!(report(&text, &cand), format!("accepted 7 15\n3 0\n{lines}"));
+        for (name, atoms) in [("flow-shop", 15), ("flow-shop-whole", 36)] {
+            let Pair { text, cand, .. } = named(&format!("{name}-{i}"));
+            assert_eq!(report(&text, &cand), format!("accepted 7 {atoms}\n3 0\n{lines}"));
+        }
+    }
+}
+
+#[test]
+fn grounded_has_the_answers_of_clasp() {
+    for grounded in GROUNDED {
+        for pair in every("sets", grounded.text, grounded.atoms) {
+            let accepted = report(&pair.text, &pair.cand).starts_with("accepted");
+            let answer = grounded.answers.iter().any(|a| a.as_bytes() == pair.cand);
+            assert_eq!(accepted, answer, "{} {}", grounded.encoding, pair.cand.escape_ascii());
+        }
     }
 }
 

@@ -1,4 +1,4 @@
-//! The decided points: reading, terms, candidate, meaning.
+//! The decided points: reading, weights, terms, candidate, meaning.
 mod common;
 use common::*;
 use second::{read_candidate, read_text, report, terms, Refusal, Verdict};
@@ -58,6 +58,9 @@ fn naturals_with_a_minus() {
     assert_eq!(line("9 -1 0 0"), Some((3, 2)));
     assert_eq!(line("1 -1 0 0 0"), Some((3, 2)));
     assert_eq!(line("1 0 0 -1 0"), Some((3, 6)));
+    assert_eq!(line("1 0 0 1 -1 0"), Some((3, 8)));
+    assert_eq!(line("1 0 0 1 1 -1"), Some((3, 10)));
+    assert_eq!(line("1 0 0 1 1 1 2 -1"), Some((3, 14)));
 }
 
 #[test]
@@ -107,12 +110,18 @@ fn long_digits() {
         assert_eq!(line(format!("1 0 0 0 {big}")), Some((5, 8)));
         assert_eq!(line(format!("1 0 0 0 1 {big}")), Some((5, 10)));
         assert_eq!(line(format!("1 0 0 0 1 -{big}")), Some((5, 10)));
+        assert_eq!(line(format!("1 0 0 1 1 {big}")), Some((5, 10)));
+        assert_eq!(line(format!("1 0 0 1 1 1 {big} 1")), Some((5, 12)));
         assert_eq!(line(format!("4 {big} a 0")), Some((5, 2)));
         assert_eq!(line(format!("9 0 {big} 0")), Some((5, 4)));
         assert_eq!(line(format!("9 2 0 {big} 0")), Some((5, 6)));
         assert_eq!(line(format!("9 2 0 -{big} 0")), Some((5, 6)));
         assert_eq!(line(format!("9 5 {big} 0 0")), Some((5, 4)));
         assert_eq!(cand(format!("{big}\n")), Some((7, 0)));
+    }
+    for big in [nines.as_str(), tens.as_str(), "4294967296", "4294967297", "18446744073709551616", "18446744073709551617"] {
+        assert_eq!(line(format!("1 0 0 1 {big} 0")), Some((5, 8)));
+        assert_eq!(line(format!("1 0 0 1 1 1 2 {big}")), Some((5, 14)));
     }
     assert_eq!(line(format!("9 0 0 {nines}")), Some((5, 6)));
     assert_eq!(line(format!("9 0 0 -{nines}")), Some((5, 6)));
@@ -129,9 +138,8 @@ fn selectors() {
         assert_eq!(line(kind.to_string()), Some((4, 0)));
         assert_eq!(line(format!("{kind} 1 1")), Some((4, 0)));
     }
-    assert_eq!(line("1 0 0 1"), Some((4, 6)));
-    assert_eq!(line("1 0 1 1 1 1 1 1 1"), Some((4, 8)));
-    assert_eq!(line("1 0 0 1 -"), Some((4, 6)));
+    assert_eq!(line("1 0 0 3 0"), Some((3, 6)));
+    assert_eq!(line("1 0 0 01 0 0"), Some((3, 6)));
     assert_eq!(line("9 5 0 0 0"), Some((4, 4)));
     assert_eq!(line("9 6 0"), Some((4, 4)));
     assert_eq!(line("9 6 4097 0 0"), Some((5, 4)));
@@ -159,6 +167,48 @@ fn counts_and_heads() {
     assert_eq!(line("1 0 0 0 1 -0"), Some((3, 10)));
     assert_eq!(line("1 0 0 0 1 0"), Some((5, 10)));
     assert_eq!(line("1 0 0 0 1 01"), Some((3, 10)));
+}
+
+#[test]
+fn weight_bodies() {
+    // The bound.
+    assert_eq!(line("1 0 1 1 1"), Some((3, 9)));
+    assert_eq!(line("1 0 1 1 1 0"), Some((3, 11)));
+    assert_eq!(line("1 0 1 1 1 0 0"), None);
+    assert_eq!(line("1 0 1 1 1 1000000000 0"), None);
+    assert_eq!(line("1 0 1 1 1 1000000001 0"), Some((5, 10)));
+    assert_eq!(line("1 0 1 1 1 1000000001"), Some((5, 10)));
+    for wrong in ["", "-", "-0", "-1", "00", "01", "+1", "x", "1x", "1000000001x", "-1000000001"] {
+        assert_eq!(line(format!("1 0 1 1 1 {wrong} 0")), Some((3, 10)));
+    }
+    // The count, of pairs.
+    assert_eq!(line("1 0 1 1 1 1 4097"), Some((5, 12)));
+    assert_eq!(line("1 0 1 1 1 1 1 2 1"), None);
+    assert_eq!(line("1 0 1 1 1 1 1 2 1 3"), Some((3, 17)));
+    assert_eq!(line("1 0 1 1 1 1 2 2 1"), Some((3, 17)));
+    assert_eq!(line("1 0 1 1 1 1 2 2 1 3"), Some((3, 19)));
+    assert_eq!(line("1 0 1 1 1 0 0 1"), Some((3, 13)));
+    let many = " 1 1".repeat(4096);
+    assert_eq!(line(format!("1 0 1 1 1 4096 4096{many}")), None);
+    assert_eq!(line(format!("1 0 1 1 1 4096 4096{many} 1")), Some((3, 19 + 4 * 4096)));
+    // Literals, then weights.
+    assert_eq!(line("1 0 1 1 1 1 1 0 0"), Some((5, 14)));
+    assert_eq!(line("1 0 1 1 1 1 1 -4096 1"), None);
+    assert_eq!(line("1 0 1 1 1 1 1 -4097 0"), Some((5, 14)));
+    assert_eq!(line("1 0 1 1 1 1 1 2"), Some((3, 15)));
+    assert_eq!(line("1 0 1 1 1 1 1 2 0"), Some((5, 16)));
+    assert_eq!(line("1 0 1 1 1 1 1 2 100000"), None);
+    assert_eq!(line("1 0 1 1 1 1 1 2 100001"), Some((5, 16)));
+    for wrong in ["", "-", "-0", "-1", "00", "01", "+1", "x", "1x", "-100001"] {
+        assert_eq!(line(format!("1 0 1 1 1 1 1 2 {wrong}")), Some((3, 16)));
+    }
+    // At the end of the text.
+    assert_eq!(lines("1 0 1 1 1"), Some((3, 9)));
+    assert_eq!(lines("1 0 1 1 1 1"), Some((3, 11)));
+    assert_eq!(lines("1 0 1 1 1 1000000001"), Some((5, 10)));
+    assert_eq!(lines("1 0 1 1 1 1 1 2"), Some((3, 15)));
+    assert_eq!(lines("1 0 1 1 1 1 1 2 1"), Some((3, 17)));
+    assert_eq!(lines("1 0 1 1 1 1 1 2 0"), Some((5, 16)));
 }
 
 #[test]
@@ -437,6 +487,11 @@ fn choice_rules() {
     assert_eq!(verdict(wrap("1 1 1 1 0 0\n1 0 0 0 1 1\n"), "1\n"), refused(8, 22));
     assert_eq!(verdict(wrap("1 1 1 1 0 0\n1 0 0 0 1 1\n"), "\n"), Verdict::Accepted(16));
     assert_eq!(verdict(wrap("1 1 0 0 0\n"), "\n"), Verdict::Accepted(16));
+}
+
+#[test]
+fn the_heaviest_body() {
+    check_heaviest(|text, cand| verdict(text, cand));
 }
 
 #[test]

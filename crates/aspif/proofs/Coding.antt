@@ -1,4 +1,4 @@
--- What words say has these words: a literal's, an integer's, a head's. Assumes nothing.
+-- What words say has these words: a literal's, a premise's, an integer's, a head's. Assumes nothing.
 use Prim.Native.Nat.{ℕ, zero, suc, _+_, _*_, _/_, _%_, _≤_}
 use mathlib.Core.Path.{_≡_, refl, sym}
 use mathlib.Core.List.{List, [], _∷_, map}
@@ -10,12 +10,12 @@ use lib.IntN.{pos, negℤ}
 use lib.ListN.{length}
 use Rattle.basics.specs.Bools.{pick}
 use Rattle.fields.specs.Reading.{found}
-use Rattle.fields.specs.Fields.{nextInteger}
+use Rattle.fields.specs.Fields.{nextInteger, weightUnit}
 use Rattle.fields.specs.inner.Tape.{listed}
 use Rattle.fields.proofs.Readers.{by-carried, reads-ends, nextInteger-reads, counted-reads}
 use Rattle.aspif.specs.Statements.{positive, negated, Head, empty, single, choice, headAtoms}
-use Rattle.aspif.specs.Grammar.{literalOf, integerOf, headOf, heads}
-use Rattle.aspif.specs.inner.Words.{literalWord, integerWord, headWords}
+use Rattle.aspif.specs.Grammar.{literalOf, integerOf, premiseOf, headOf, heads}
+use Rattle.aspif.specs.inner.Words.{literalWord, integerWord, premiseWord, headWords}
 use Rattle.fields.specs.declared.Item.the-variants as of
 
 -- ---- the halves of a word
@@ -41,6 +41,14 @@ literal-forth w = go (eqb (w % 2) 0) refl
 pub literals-forth : (ws : List ℕ) → map literalWord (map literalOf ws) ≡ ws
 literals-forth [] = refl
 literals-forth (w ∷ ws) = rw (literal-forth w, literals-forth ws)
+
+-- a word is the word of the premise that it says
+premise-forth : (w : ℕ) → premiseWord (premiseOf w) ≡ w
+premise-forth w = rw (literal-forth (w % weightUnit)) (omega arith)
+
+pub premises-forth : (ws : List ℕ) → map premiseWord (map premiseOf ws) ≡ ws
+premises-forth [] = refl
+premises-forth (w ∷ ws) = rw (premise-forth w, premises-forth ws)
 
 -- ---- an integer
 

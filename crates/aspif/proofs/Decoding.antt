@@ -13,12 +13,16 @@ use lib.ListN.{length, getD, drop, length-append}
 use lib.Seq.{sets, sets-eq, length-sets, getD-drop, drop-drop, drop-append-seam}
 use Rattle.basics.specs.Bools.{pick}
 use Rattle.basics.proofs.Bools.{picked}
+use Rattle.basics.specs.Lists.{All}
 use Rattle.fields.specs.inner.Tape.{listed}
-use Rattle.aspif.specs.Statements.{Literal, positive, negated, Head, headAtoms, Body, normal, num, str, comp, elem, unguarded, guard, defines, collects, states, Theory, Statement, rule, output, theory, comment, Line, Rule, ruleIn, theoryIn}
-use Rattle.aspif.specs.Grammar.{literalOf, integerOf}
-use Rattle.aspif.specs.inner.Words.{ruleKind, outputKind, commentKind, numberKind, stringKind, compoundKind, elementKind, atomKind, guardedKind, literalWord, integerWord, literalWords, wordsOf, words, allWords, word, wordsFrom, listAt, behind, literalsAt, saysAt, after, linesFrom, linesOf}
-use Rattle.aspif.specs.inner.Kept.{TheoryWith, SmallWith, AllSmall, Ahead}
+use Rattle.fields.specs.inner.Kept.{IsAtom}
+use Rattle.fields.proofs.Readers.{premise-parts}
+use Rattle.aspif.specs.Statements.{Literal, positive, negated, Head, headAtoms, Premise, Body, normal, weights, num, str, comp, elem, unguarded, guard, defines, collects, states, Theory, Statement, rule, output, theory, comment, Line, Rule, ruleIn, theoryIn}
+use Rattle.aspif.specs.Grammar.{literalOf, integerOf, premiseOf}
+use Rattle.aspif.specs.inner.Words.{ruleKind, outputKind, commentKind, numberKind, stringKind, compoundKind, elementKind, atomKind, guardedKind, normalKind, weightKind, literalWord, integerWord, premiseWord, literalWords, bodyWords, wordsOf, words, allWords, word, wordsFrom, listAt, behind, literalsAt, bodyAt, saysAt, after, linesFrom, linesOf}
+use Rattle.aspif.specs.inner.Kept.{SmallPremise, SmallBody, TheoryWith, SmallWith, Small, AllSmall, Ahead}
 use Rattle.aspif.proofs.Coding.{kindOf, head-words, head-back}
+use Rattle.aspif.proofs.Kept.{atom-of}
 
 -- ---- a word says what it was written for
 
@@ -44,6 +48,17 @@ literal-back (negated a) = rw (odd-rest a, odd-half a)
 pub literals-back : (ls : List Literal) → map literalOf (map literalWord ls) ≡ ls
 literals-back [] = refl
 literals-back (l ∷ ls) = rw (literal-back l, literals-back ls)
+
+-- the word of a premise within its bounds says the premise
+premise-back : (p : Premise) → SmallPremise p → premiseOf (premiseWord p) ≡ p
+premise-back p h =
+    let i : IsAtom (literalWord (p .literal) / 2) = rw (← (atom-of (literalWord (p .literal))), literal-back (p .literal)) (h .0) in
+    let e = premise-parts (literalWord (p .literal)) (p .weight) i in
+    rw (e .0, e .1, literal-back (p .literal))
+
+premises-back : (ps : List Premise) → All SmallPremise ps → map premiseOf (map premiseWord ps) ≡ ps
+premises-back [] h = refl
+premises-back (p ∷ ps) h = rw (premise-back p (h .0), premises-back ps (h .1))
 
 -- the word of an integer says the integer
 pub integer-back : (z : ℤ) → integerOf (integerWord z) ≡ z
@@ -83,6 +98,21 @@ list-on t q us rest e =
     let d : drop (q + 1) t ≡ us ++ rest = drop-in t q 1 (length us ∷ us ++ rest) e in
     record { count = n; says = rw n (words-in t (q + 1) us rest d); then = rw n (drop-in t (q + 1) (length us) (us ++ rest) d ∙ drop-append-seam us rest) }
 
+-- ---- what the words of a body say
+
+body-back : (t : List ℕ) (p : ℕ) (rest : List ℕ) (b : Body) → SmallBody b → drop p t ≡ bodyWords b ++ rest → bodyAt t p ≡ b
+body-back t p rest (normal ls) s e =
+    let all : List ℕ = normalKind ∷ 0 ∷ literalWords ls ++ rest in
+    let k : word t p ≡ normalKind = word-first t p normalKind _ e in
+    let f = list-on t (p + 2) (map literalWord ls) rest (drop-in t p 2 all e) in
+    rw (k, f .says, literals-back ls)
+body-back t p rest (weights k ps) s e =
+    let all : List ℕ = weightKind ∷ k ∷ listed (map premiseWord ps) ++ rest in
+    let c : word t p ≡ weightKind = word-first t p weightKind _ e in
+    let d : word t (p + 1) ≡ k = word-in t p 1 all e in
+    let f = list-on t (p + 2) (map premiseWord ps) rest (drop-in t p 2 all e) in
+    rw (c, d, f .says, premises-back ps (s .1 .0))
+
 -- ---- what the words of a statement say
 
 module _ (t : List ℕ) (q : ℕ) (rest : List ℕ) where
@@ -90,18 +120,17 @@ module _ (t : List ℕ) (q : ℕ) (rest : List ℕ) where
   abbrev At : Statement → Type 0
   At x = drop q t ≡ wordsOf x ++ rest
 
-  says-rule : (h : Head) (b : Body) → At (rule h b) → saysAt t q ≡ rule h b
+  says-rule : (h : Head) (b : Body) → SmallBody b → At (rule h b) → saysAt t q ≡ rule h b
   unfolding saysAt
-  says-rule h (normal ls) e =
-      let tail : List ℕ = literalWords ls ++ rest in
+  says-rule h b s e =
+      let tail : List ℕ = bodyWords b ++ rest in
       let all : List ℕ = ruleKind ∷ kindOf h ∷ length (headAtoms h) ∷ headAtoms h ++ tail in
-      let e″ : drop q t ≡ ruleKind ∷ kindOf h ∷ listed (headAtoms h) ++ literalWords ls ++ rest = e ∙ rw (head-words h) in
+      let e″ : drop q t ≡ ruleKind ∷ kindOf h ∷ listed (headAtoms h) ++ bodyWords b ++ rest = e ∙ rw (head-words h) in
       let e′ : drop q t ≡ all = e″ ∙ simp append-assoc in
       let k : word t q ≡ ruleKind = word-first t q ruleKind _ e′ in
       let c : word t (q + 1) ≡ kindOf h = word-in t q 1 all e′ in
       let f = list-on t (q + 2) (headAtoms h) tail (drop-in t q 2 all e′) in
-      let g = list-on t (behind t (q + 2)) (map literalWord ls) rest (f .then) in
-      rw (k, c, f .says, g .says, head-back h, literals-back ls)
+      rw (k, c, f .says, head-back h, body-back t (behind t (q + 2)) rest b s (f .then))
 
   says-output : (bs : List ℕ) (ls : List Literal) → At (output bs ls) → saysAt t q ≡ output bs ls
   unfolding saysAt
@@ -171,11 +200,11 @@ module _ (t : List ℕ) (q : ℕ) (rest : List ℕ) where
       let f = list-on t (q + 1) bs rest (drop-in t q 1 all e) in
       rw (k, f .says)
 
-  says-back : (x : Statement) → At x → saysAt t q ≡ x
-  says-back (rule h b) = says-rule h b
-  says-back (output bs ls) = says-output bs ls
-  says-back (theory x) = says-theory x
-  says-back (comment bs) = says-comment bs
+  says-back : (x : Statement) → Small x → At x → saysAt t q ≡ x
+  says-back (rule h b) s = says-rule h b (s .1)
+  says-back (output bs ls) s = says-output bs ls
+  says-back (theory x) s = says-theory x
+  says-back (comment bs) s = says-comment bs
 
 -- ---- lines
 
@@ -186,32 +215,32 @@ record Here (t : List ℕ) (p : ℕ) (x : Line) (rest : List ℕ) : Type 0 where
   ends : after t p ≡ p + length (words x)
   then : drop (after t p) t ≡ rest
 
-here : (t : List ℕ) (p : ℕ) (x : Line) (rest : List ℕ) → drop p t ≡ words x ++ rest → Here t p x rest
-here t p x rest e =
+here : (t : List ℕ) (p : ℕ) (x : Line) (rest : List ℕ) → Small (x .says) → drop p t ≡ words x ++ rest → Here t p x rest
+here t p x rest s e =
     let ws : List ℕ = wordsOf (x .says) in
     let all : List ℕ = x .place ∷ length ws ∷ ws ++ rest in
     let f = list-on t (p + 1) ws rest (drop-in t p 1 all e) in
-    record { place = word-first t p (x .place) _ e; says = says-back t (p + 2) rest (x .says) (drop-in t p 2 all e); ends = rw (f .count) (omega arith); then = f .then }
+    record { place = word-first t p (x .place) _ e; says = says-back t (p + 2) rest (x .says) s (drop-in t p 2 all e); ends = rw (f .count) (omega arith); then = f .then }
 
 module _ (t rest : List ℕ) where
   -- the words of lines that stand from p on say the lines
-  lines-at : (xs : List Line) (p : ℕ) → drop p t ≡ allWords xs ++ rest → linesFrom t p (length xs) ≡ xs
+  lines-at : (xs : List Line) (p : ℕ) → AllSmall xs → drop p t ≡ allWords xs ++ rest → linesFrom t p (length xs) ≡ xs
   unfolding linesFrom
-  lines-at [] p e = refl
-  lines-at (x ∷ xs) p e =
-      let h = here t p x (allWords xs ++ rest) (e ∙ append-assoc (words x) (allWords xs) rest) in
-      rw (h .place, h .says, lines-at xs (after t p) (h .then))
+  lines-at [] p s e = refl
+  lines-at (x ∷ xs) p s e =
+      let h = here t p x (allWords xs ++ rest) (s .0) (e ∙ append-assoc (words x) (allWords xs) rest) in
+      rw (h .place, h .says, lines-at xs (after t p) (s .1) (h .then))
 
   -- lines whose words stand from p on, within the tape, are ahead of it
-  ahead-at : (xs : List Line) (p : ℕ) → drop p t ≡ allWords xs ++ rest → p + length (allWords xs) ≤ length t → AllSmall xs → Ahead t p (length xs)
+  ahead-at : (xs : List Line) (p : ℕ) → AllSmall xs → drop p t ≡ allWords xs ++ rest → p + length (allWords xs) ≤ length t → Ahead t p (length xs)
   unfolding Ahead
-  ahead-at [] p e w s = omega arith
-  ahead-at (x ∷ xs) p e w s =
+  ahead-at [] p s e w = omega arith
+  ahead-at (x ∷ xs) p s e w =
       let n = length-append (words x) (allWords xs) in
       let d = e ∙ append-assoc (words x) (allWords xs) rest in
-      let h = here t p x (allWords xs ++ rest) d in (
+      let h = here t p x (allWords xs ++ rest) (s .0) d in (
         record { stand = rw (h .place, h .says) (record { inside = omega arith; are = words-in t p (words x) (allWords xs ++ rest) d }); small = rw (h .says) (s .0) },
-        ahead-at xs (after t p) (h .then) (omega (arith, h .ends)) (s .1),
+        ahead-at xs (after t p) (s .1) (h .then) (omega (arith, h .ends)),
       )
 
 -- the words stand at the start of the tape that they were written to
@@ -220,14 +249,15 @@ at-start ws t h =
     let e : 0 + length ws ≡ length ws = omega arith in
     rw (sets-eq ws t 0 (omega arith), e)
 
-module _ (xs : List Line) (t : List ℕ) (fits : length (allWords xs) ≤ length t) where
-  -- the lines written to a tape are the lines that it says
+-- lines within their bounds, written to a tape ..
+module _ (xs : List Line) (t : List ℕ) (fits : length (allWords xs) ≤ length t) (small : AllSmall xs) where
+  -- .. are the lines that it says
   pub lines-back : linesOf (sets t 0 (allWords xs)) (length xs) ≡ xs
-  lines-back = lines-at (sets t 0 (allWords xs)) (drop (length (allWords xs)) t) xs 0 (at-start (allWords xs) t fits)
+  lines-back = lines-at (sets t 0 (allWords xs)) (drop (length (allWords xs)) t) xs 0 small (at-start (allWords xs) t fits)
 
   -- and can be walked
-  pub ahead-back : AllSmall xs → Ahead (sets t 0 (allWords xs)) 0 (length xs)
-  ahead-back = ahead-at (sets t 0 (allWords xs)) (drop (length (allWords xs)) t) xs 0 (at-start (allWords xs) t fits) (omega (arith, length-sets t 0 (allWords xs)))
+  pub ahead-back : Ahead (sets t 0 (allWords xs)) 0 (length xs)
+  ahead-back = ahead-at (sets t 0 (allWords xs)) (drop (length (allWords xs)) t) xs 0 small (at-start (allWords xs) t fits) (omega (arith, length-sets t 0 (allWords xs)))
 
 -- ---- a statement is the one that its view says
 

@@ -13,14 +13,14 @@ use Rattle.basics.specs.Bools.{pick}
 use Rattle.basics.specs.Lists.{All, Ascending}
 use Rattle.basics.proofs.Lists.{all-so}
 use Rattle.faults.specs.Answer.{got, refused}
-use Rattle.faults.specs.Limits.{lastTerm, mostCount, largestNumber}
+use Rattle.faults.specs.Limits.{lastTerm, mostCount, largestNumber, largestBound}
 use Rattle.fields.specs.Reading.{Reading, found}
-use Rattle.fields.specs.Fields.{space, byteAt, allPositive, natural, counted}
-use Rattle.fields.specs.inner.Kept.{IsAtom, Fits, ByteOf}
+use Rattle.fields.specs.Fields.{space, byteAt, allPositive, natural, weightUnit, counted}
+use Rattle.fields.specs.inner.Kept.{IsAtom, Fits, ByteOf, ItemKept}
 use Rattle.fields.proofs.Readers.{ByReading, Reads, finds, stops, Any, by-grammar, by-carried, by-bounds, reads-found, reads-pick, reads-either, reads-so, reads-then, byte-reads, bytes-reads, lineEnd-reads, textEnd-reads, natural-reads, nextNatural-reads, nextInteger-reads, nextAtom-reads, nextTerm-reads, nextElement-reads, counted-reads, string-reads, rest-reads}
 use Rattle.aspif.specs.Statements.{positive, negated, choice, num, str, comp, defines, collects, states, Statement, rule, output, theory, comment, Line, atomOf}
-use Rattle.aspif.specs.Grammar.{literalOf, integerOf, plainHead, headOf, heads, bodyKind, literals, body, ruleLine, outputLine, numericLine, stringLine, compoundLine, elementLine, Front, front, theoryLine, guardedLine, commentLine, theoryOf, theoryPart, statementOf, lineOf, lastLine, lines, noTag, firstLine, plan, answer, statements}
-use Rattle.aspif.specs.inner.Kept.{IsTerm, IsElement, IsByte, FromTo, Counted, SmallLiterals, SmallHead, SmallBody, SmallWith, AllSmallWith, AllSmall, AllInRange}
+use Rattle.aspif.specs.Grammar.{literalOf, integerOf, premiseOf, plainHead, headOf, heads, literals, normalBody, weightBody, body, ruleLine, outputLine, numericLine, stringLine, compoundLine, elementLine, Front, front, theoryLine, guardedLine, commentLine, theoryOf, theoryPart, statementOf, lineOf, lastLine, lines, noTag, firstLine, plan, answer, statements}
+use Rattle.aspif.specs.inner.Kept.{IsTerm, IsElement, IsByte, FromTo, Counted, SmallLiterals, SmallHead, SmallPremise, SmallBody, SmallWith, AllSmallWith, AllSmall, AllInRange}
 use Rattle.fields.specs.declared.Item.the-variants as of
 
 -- ---- what a word says keeps to the bounds that the word does
@@ -38,6 +38,13 @@ atoms-kept (w ∷ ws) h = (rw (atom-of w) (h .0), atoms-kept ws (h .1))
 
 atoms-few : (ws : List ℕ) → length ws ≤ mostCount → length (map atomOf (map literalOf ws)) ≤ mostCount
 atoms-few ws h = rw (length-map (map literalOf ws) atomOf, length-map ws literalOf) h
+
+premises-kept : (s ws : List ℕ) → All (ItemKept s of.Premise) ws → All SmallPremise (map premiseOf ws)
+premises-kept s [] h = tt
+premises-kept s (w ∷ ws) h = ((rw (atom-of (w % weightUnit)) (h .0 .0), h .0 .1), premises-kept s ws (h .1))
+
+premises-few : (ws : List ℕ) → length ws ≤ mostCount → length (map premiseOf ws) ≤ mostCount
+premises-few ws h = rw (length-map ws premiseOf) h
 
 integer-kept : (low high w : ℕ) → Fits low high w → FromTo low high (integerOf w)
 integer-kept low high w f = go (eqb (w % 2) 0) refl
@@ -70,17 +77,26 @@ module _ (s : List ℕ) where
   literals-reads at =
       reads-so (λ ws h. (atoms-kept ws (h .0), atoms-few ws (h .1))) (omega arith) (counted-reads of.Literal 5 mostCount by-bounds s at)
 
-  pub bodyKind-reads : (at : ℕ) → Reads Any s at 2 (bodyKind s at)
-  unfolding bodyKind
-  bodyKind-reads at =
-      reads-then (nextNatural-reads 3 1 by-grammar s at) (λ k n h l.
-      reads-pick (eqb k 0) (reads-found tt) (stops by-carried (λ i. omega arith)))
+  premises-reads : (at : ℕ) → Reads (λ ws. Counted SmallPremise (map premiseOf ws)) s at 2 (counted of.Premise 5 mostCount s at)
+  premises-reads at =
+      reads-so (λ ws h. (premises-kept s ws (h .0), premises-few ws (h .1))) (omega arith) (counted-reads of.Premise 5 mostCount by-bounds s at)
+
+  normalBody-reads : (at : ℕ) → Reads SmallBody s at 2 (normalBody s at)
+  unfolding normalBody
+  normalBody-reads at = reads-then (literals-reads at) (λ ls m h i. reads-found h)
+
+  weightBody-reads : (at : ℕ) → Reads SmallBody s at 2 (weightBody s at)
+  unfolding weightBody
+  weightBody-reads at =
+      reads-so (λ b h. h) (omega arith)
+      (reads-then (nextNatural-reads 5 largestBound by-bounds s at) (λ k n g l.
+      reads-then (premises-reads n) (λ ps m h i. reads-found (g, h))))
 
   body-reads : (at : ℕ) → Reads SmallBody s at 4 (body s at)
   unfolding body
   body-reads at =
-      reads-then (bodyKind-reads at) (λ u n g l.
-      reads-then (literals-reads n) (λ ls m h i. reads-found h))
+      reads-then (nextNatural-reads 3 1 by-grammar s at) (λ kind n g l.
+      reads-either (eqb kind 0) normalBody weightBody (normalBody-reads n) (weightBody-reads n))
 
   terms-reads : (at : ℕ) → Reads (Counted IsTerm) s at 2 (counted of.Term 5 mostCount s at)
   terms-reads = counted-reads of.Term 5 mostCount by-bounds s

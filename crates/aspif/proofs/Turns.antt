@@ -16,7 +16,7 @@ use Rattle.fields.proofs.Taping.{On, on-start, on-more}
 use Rattle.aspif.specs.Statements.{Statement, Line}
 use Rattle.aspif.specs.Grammar.{answer, statementOf, lineOf, lastLine, lines}
 use Rattle.aspif.specs.inner.Words.{words, allWords, linesOf}
-use Rattle.aspif.specs.inner.Kept.{Ahead}
+use Rattle.aspif.specs.inner.Kept.{AllSmall, Ahead}
 use Rattle.aspif.specs.inner.Values.{taped}
 use Rattle.aspif.proofs.Decoding.{lines-back, ahead-back}
 use Rattle.aspif.proofs.Kept.{Bytes, lines-small}
@@ -120,9 +120,12 @@ module _ (s : List ℕ) (n : ℕ) (t : List ℕ) (from : ℕ) (u : List ℕ) (at
   pub reach-end : (m : ℕ) → lines left s at ≡ found [] m → lines n s from ≡ found (r .done) m
   reach-end m e = rw (r .whole, e, append-nil (r .done))
 
-  module _ (m : ℕ) (e : lines left s at ≡ found [] m) (fits : o ≤ length t) where
+  module _ (m : ℕ) (e : lines left s at ≡ found [] m) (fits : o ≤ length t) (b : Bytes s) where
     enough : length (allWords (r .done)) ≤ length t
     enough = omega (arith, r .on .next)
+
+    small : AllSmall (r .done)
+    small = lines-small s n from (r .done) m b (sym (reach-end m e))
 
     counted : n - left ≡ length (r .done)
     counted = omega (arith, r .count)
@@ -132,7 +135,7 @@ module _ (s : List ℕ) (n : ℕ) (t : List ℕ) (from : ℕ) (u : List ℕ) (at
     end-taped = rw (reach-end m e, r .on .tape, counted)
 
     pub end-lines : got (linesOf u (n - left)) ≡ answer (lines n s from)
-    end-lines = rw (reach-end m e, r .on .tape, counted, lines-back (r .done) t enough)
+    end-lines = rw (reach-end m e, r .on .tape, counted, lines-back (r .done) t enough small)
 
-    pub end-walks : Bytes s → Ahead u 0 (n - left)
-    end-walks b = rw (r .on .tape, counted) (ahead-back (r .done) t enough (lines-small s n from (r .done) m b (sym (reach-end m e))))
+    pub end-walks : Ahead u 0 (n - left)
+    end-walks = rw (r .on .tape, counted) (ahead-back (r .done) t enough small)

@@ -1,15 +1,17 @@
 -- Lines on the tape, one by one. Assumes nothing.
 use Prim.Native.Nat.{ℕ, zero, suc, _+_, _-_, _≤_, _<_}
 use mathlib.Core.Path.{_≡_, refl, sym, ap, _∙_}
-use mathlib.Core.List.{List, [], _∷_, _++_, map}
+use mathlib.Core.List.{List, [], _∷_, _++_}
+use mathlib.Core.Bool.{Bool, true, false}
 use native.Mathlib.Omega.{arith}
 use native.Mathlib.Nat.{add-zero}
 use borrow.Author.Tests.{eq-eqb}
+use lib.Dec.{eqb}
 use lib.ListN.{length, getD, length-append, length-map, List·getD-eq-default}
-use Rattle.fields.specs.inner.Tape.{listed}
-use Rattle.aspif.specs.Statements.{Head, headAtoms, rule, normal}
-use Rattle.aspif.specs.Grammar.{literalOf, headOf}
-use Rattle.aspif.specs.inner.Words.{ruleKind, words, wordsOf, headWords, literalWord, word, wordsFrom, listAt, behind, literalsAt, saysAt, lineAt, after, linesFrom}
+use Rattle.basics.specs.Bools.{pick}
+use Rattle.aspif.specs.Statements.{Head, headAtoms, normal, weights, rule}
+use Rattle.aspif.specs.Grammar.{literalOf, premiseOf, headOf}
+use Rattle.aspif.specs.inner.Words.{ruleKind, words, wordsOf, normalKind, headWords, literalWord, premiseWord, bodyWords, word, wordsFrom, listAt, behind, literalsAt, premisesAt, bodyAt, saysAt, lineAt, after, linesFrom}
 use Rattle.aspif.specs.inner.Kept.{AllSmall, Stand, LineOn, Ahead}
 use Rattle.aspif.proofs.Coding.{kindOf, head-words}
 
@@ -84,25 +86,31 @@ module _ {t : List ℕ} {p : ℕ} (l : LineOn t p) where
 
 module _ (t : List ℕ) (q : ℕ) where
   -- kind 1 is that of a rule
-  pub rule-says : word t q ≡ ruleKind → saysAt t q ≡ rule (headOf (word t (q + 1)) (listAt t (q + 2))) (normal (literalsAt t (behind t (q + 2))))
+  pub rule-says : word t q ≡ ruleKind → saysAt t q ≡ rule (headOf (word t (q + 1)) (listAt t (q + 2))) (bodyAt t (behind t (q + 2)))
   unfolding saysAt
   rule-says e = rw (eq-eqb (word t q) ruleKind e)
 
 -- the words of a rule: how many heads it has, and how far it goes
-rule-room : (t : List ℕ) (p a n : ℕ) (h : Head) (ls : List ℕ) → Stand (a ∷ n ∷ ruleKind ∷ headWords h ++ listed ls) t p
-    → (word t (p + 4) ≡ length (headAtoms h)) × (p + 6 + length (headAtoms h) + length ls ≤ length t)
-rule-room t p a n h ls s =
-    let ws : List ℕ = a ∷ n ∷ ruleKind ∷ kindOf h ∷ length (headAtoms h) ∷ headAtoms h ++ listed ls in
+rule-room : (t : List ℕ) (p a n : ℕ) (h : Head) (bs : List ℕ) → Stand (a ∷ n ∷ ruleKind ∷ headWords h ++ bs) t p
+    → (word t (p + 4) ≡ length (headAtoms h)) × (p + 5 + length (headAtoms h) + length bs ≤ length t)
+rule-room t p a n h bs s =
+    let ws : List ℕ = a ∷ n ∷ ruleKind ∷ kindOf h ∷ length (headAtoms h) ∷ headAtoms h ++ bs in
     let s′ : Stand ws t p = rw (head-words h) at s in
-    (word-of t ws p 4 (s′ .are) (omega arith), omega (arith, s′ .inside, length-append (headAtoms h) (listed ls)))
+    (word-of t ws p 4 (s′ .are) (omega arith), omega (arith, s′ .inside, length-append (headAtoms h) bs))
+
+-- the words of a body: three, and those of its list
+body-room : (t : List ℕ) (p : ℕ) → length (bodyWords (bodyAt t p)) ≡ 3 + word t (p + 2)
+body-room t p = go (eqb (word t p) normalKind)
+  where
+    go : (k : Bool) → length (bodyWords (pick k (normal (literalsAt t (p + 2))) (weights (word t (p + 1)) (premisesAt t (p + 2))))) ≡ 3 + word t (p + 2)
+    go true = omega (arith, length-map (literalsAt t (p + 2)) literalWord, length-map (listAt t (p + 2)) literalOf, words-length t (p + 2 + 1) (word t (p + 2)))
+    go false = omega (arith, length-map (premisesAt t (p + 2)) premiseWord, length-map (listAt t (p + 2)) premiseOf, words-length t (p + 2 + 1) (word t (p + 2)))
 
 -- its lists stand within the tape
-pub rule-inside : {t : List ℕ} {p : ℕ} → LineOn t p → word t (p + 2) ≡ ruleKind → behind t (behind t (p + 2 + 2)) ≤ length t
+pub rule-inside : {t : List ℕ} {p : ℕ} → LineOn t p → word t (p + 2) ≡ ruleKind → behind t (behind t (p + 2 + 2) + 2) ≤ length t
 rule-inside {t} {p} l e =
     let h = headOf (word t (p + 2 + 1)) (listAt t (p + 2 + 2)) in
-    let ls = literalsAt t (behind t (p + 2 + 2)) in
-    let r = rule-room t p _ _ h (map literalWord ls) (rw (rule-says t (p + 2) e) at (l .stand)) in
+    let b = bodyAt t (behind t (p + 2 + 2)) in
+    let r = rule-room t p _ _ h (bodyWords b) (rw (rule-says t (p + 2) e) at (l .stand)) in
     let n : word t (p + 2 + 2) ≡ length (headAtoms h) = ap (word t) (omega arith) ∙ r .0 in
-    let m : length (map literalWord ls) ≡ word t (behind t (p + 2 + 2)) =
-    length-map ls literalWord ∙ length-map (listAt t (behind t (p + 2 + 2))) literalOf ∙ words-length t _ _ in
-    omega (arith, r .1, n, m)
+    omega (arith, r .1, n, body-room t (behind t (p + 2 + 2)))

@@ -1,4 +1,4 @@
--- Believed: the grammar of a plan, one definition a sentence of document 01, 'Reading the text'. It can be run.
+-- Believed: the grammar of a plan, one definition a sentence of document 01, 'Reading the text', and of W1. It can be run.
 -- A reader is given the place of the line's first byte where that is the place of a refusal. Assumes nothing.
 use Prim.Native.Nat.{ℕ, zero, suc, _+_, _/_, _%_}
 use mathlib.Core.List.{List, [], _∷_, map}
@@ -6,12 +6,12 @@ use lib.ListN.{length}
 use lib.Dec.{eqb}
 use lib.IntN.{ℤ, pos, negℤ}
 use Rattle.basics.specs.Bools.{pick}
-use Rattle.faults.specs.Limits.{lastTerm, mostCount, largestNumber}
+use Rattle.faults.specs.Limits.{lastTerm, mostCount, largestNumber, largestBound}
 use Rattle.faults.specs.Answer.{Answer, got, refused}
 use Rattle.fields.specs.declared.Item.the-variants as of
 use Rattle.fields.specs.Reading.{Reading, found, fault, Reader, andThen, _>>=_, _>>_, pure}
-use Rattle.fields.specs.Fields.{space, byteAt, byte, bytes, lineEnd, textEnd, natural, nextNatural, nextInteger, nextAtom, nextTerm, nextElement, counted, string, rest}
-use Rattle.aspif.specs.Statements.{Literal, positive, negated, Head, empty, single, choice, Body, normal, num, str, comp, elem, unguarded, guard, defines, collects, states, Statement, rule, output, theory, comment, Line}
+use Rattle.fields.specs.Fields.{space, byteAt, byte, bytes, lineEnd, textEnd, natural, nextNatural, nextInteger, nextAtom, nextTerm, nextElement, weightUnit, counted, string, rest}
+use Rattle.aspif.specs.Statements.{Literal, positive, negated, Head, empty, single, choice, Premise, Body, normal, weights, num, str, comp, elem, unguarded, guard, defines, collects, states, Statement, rule, output, theory, comment, Line}
 
 -- ---- a literal and an integer are read as one number: 2 v, and 2 v + 1 after a minus
 
@@ -20,6 +20,11 @@ literalOf w = pick (eqb (w % 2) 0) (positive (w / 2)) (negated (w / 2))
 
 abbrev pub integerOf : ℕ → ℤ
 integerOf w = pick (eqb (w % 2) 0) (pos (w / 2)) (negℤ (pos (w / 2)))
+
+-- a literal and its weight are read as one number
+
+abbrev pub premiseOf : ℕ → Premise
+premiseOf w = record { literal = literalOf (w % weightUnit); weight = w / weightUnit }
 
 -- ---- statements
 
@@ -35,19 +40,27 @@ headOf kind hs = pick (eqb kind 0) (plainHead hs) (choice hs)
 unfoldable pub heads : (kind : ℕ) → Reader (List ℕ)
 heads kind = counted of.Atom (pick (eqb kind 0) 4 5) (pick (eqb kind 0) 1 mostCount)
 
--- a normal body; a weight body, kind 1, is not carried
-unfoldable pub bodyKind : Reader Unit
-bodyKind s at = andThen (nextNatural 3 1 s at) (λ k n. pick (eqb k 0) (found tt n) (fault 4 (at + 1)))
-
 unfoldable pub literals : Reader (List ℕ)
 literals = counted of.Literal 5 mostCount
 
--- `0`, a count, that many literals
-unfoldable pub body : Reader Body
-body = do
-  bodyKind
+-- the rest of `0`, a count, that many literals
+unfoldable pub normalBody : Reader Body
+normalBody = do
   ls ← literals
   pure (normal (map literalOf ls))
+
+-- the rest of `1`, a lower bound, a count, then literal and weight in turn
+unfoldable pub weightBody : Reader Body
+weightBody = do
+  k ← nextNatural 5 largestBound
+  ps ← counted of.Premise 5 mostCount
+  pure (weights k (map premiseOf ps))
+
+-- a normal body is of kind 0, a weight body of kind 1
+unfoldable pub body : Reader Body
+body = do
+  kind ← nextNatural 3 1
+  pick (eqb kind 0) normalBody weightBody
 
 -- the rest of `1`, head, body
 unfoldable pub ruleLine : Reader Statement

@@ -1,4 +1,4 @@
--- Believed: what the lines of a plan say: document 01, 'Reading the text'. Assumes nothing.
+-- Believed: what the lines of a plan say: document 01, 'Reading the text', and weight bodies by W1. Assumes nothing.
 use Prim.Native.Nat.{ℕ}
 use mathlib.Core.Bool.{Bool}
 use mathlib.Core.List.{List, [], _∷_, _++_, map}
@@ -26,9 +26,15 @@ headAtoms (choice hs) = hs
 abbrev pub inHead : ℕ → Head → Bool
 inHead a h = among a (headAtoms h)
 
--- a normal body
+-- a literal, and what it counts
+pub record Premise : Type 0 where
+  pub literal : Literal
+  pub weight : ℕ
+
+-- a normal body; or a weight body: a lower bound, and literals with weights
 pub data Body : Type 0 where
   normal : (literals : List Literal) → Body
+  weights : (bound : ℕ) → (premises : List Premise) → Body
 
 -- what a term number stands for; a compound's t is a term number, or -1, -2, -3 (tuple, set, list)
 pub data Term : Type 0 where
@@ -72,8 +78,12 @@ atomOf (negated a) = a
 abbrev pub literalAtoms : List Literal → List ℕ
 literalAtoms ls = map atomOf ls
 
+abbrev pub premiseAtom : Premise → ℕ
+premiseAtom p = atomOf (p .literal)
+
 abbrev pub bodyAtoms : Body → List ℕ
 bodyAtoms (normal ls) = literalAtoms ls
+bodyAtoms (weights k ps) = map premiseAtom ps
 
 -- those of a head and a body, of a condition, and of a theory atom
 abbrev pub statementAtoms : Statement → List ℕ

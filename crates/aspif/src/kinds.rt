@@ -1,4 +1,4 @@
-// The kinds of statements on the tape.
+// The kinds of statements and of bodies on the tape.
 
 pub const RULE: u32 = 1;
 
@@ -19,3 +19,8 @@ pub const ELEMENT: u32 = 94;
 pub const ATOM: u32 = 95;
 
 pub const GUARDED: u32 = 96;
+
+// A body: a normal one, or one with weights.
+pub const NORMAL: u32 = 0;
+
+pub const WEIGHTS: u32 = 1;

@@ -4,17 +4,19 @@ ghost use Prim.Native.Nat.{_+_, _≤_, _<_};
 ghost use lib.ListN.{length};
 ghost use Rattle.fields.specs.inner.Bounds.{longestRead};
 ghost use Rattle.fields.specs.inner.Tape.{onTape, listed};
-ghost use Rattle.fields.specs.inner.Values.{asPassed, asWrote, roomy};
-ghost use Rattle.aspif.specs.Grammar.{heads, bodyKind, literals, body, ruleLine, outputLine, commentLine};
+ghost use Rattle.fields.specs.inner.Values.{asWrote, roomy};
+ghost use Rattle.aspif.specs.Grammar.{heads, literals, normalBody, weightBody, body, ruleLine, outputLine, commentLine};
 ghost use Rattle.aspif.specs.inner.Words.{bodyWords, wordsOf};
 use crate::kinds::COMMENT;
+use crate::kinds::NORMAL;
 use crate::kinds::OUTPUT;
 use crate::kinds::RULE;
+use crate::kinds::WEIGHTS;
 use crate::tape::begin;
 use crate::tape::put;
 use faults::Kind;
+use faults::LARGEST_BOUND;
 use faults::MOST_COUNT;
-use faults::Refusal;
 use fields::Cursor;
 use fields::Item;
 use fields::Passed;
@@ -34,25 +36,6 @@ fn heads(c: Cursor, s: &[u8], kind: u32, tape: &mut [u32], out: usize) -> Wrote
     c.counted(s, Item::Atom, MOST_COUNT, Kind::Bounds, tape, out)
 }
 
-// The kind of a body: 0, a normal body.
-fn body_kind(c: Cursor, s: &[u8]) -> Passed
-    ensures { λ r. ⌜ asPassed r ≡ bodyKind (now (s .entry)) (c .at) ⌝ }
-{
-    let a = c.next_natural(s, 1, Kind::Grammar);
-    let WordField::Got(k, d) = a else {
-        return Passed::Refused(a.refusal());
-    };
-    if k == 0 {
-        return Passed::Got(d);
-    }
-    let at = c.at;
-    let place = at + 1;
-    Passed::Refused(Refusal {
-        kind: Kind::Carried,
-        place,
-    })
-}
-
 // A count and so many literals.
 pub fn literals(c: Cursor, s: &[u8], tape: &mut [u32], out: usize) -> Wrote
     requires { ⌜ (out ≤ c .at) × (length (now s) ≤ length (now tape)) ⌝ }
@@ -62,17 +45,44 @@ pub fn literals(c: Cursor, s: &[u8], tape: &mut [u32], out: usize) -> Wrote
     c.counted(s, Item::Literal, MOST_COUNT, Kind::Bounds, tape, out)
 }
 
-// A normal body: its kind, a count and so many literals.
+// A normal body behind its kind: a count and so many literals.
+fn normal_body(c: Cursor, s: &[u8], tape: &mut [u32], out: usize) -> Wrote
+    requires { ⌜ (out + 2 ≤ c .at) × (c .at ≤ length (now s)) × (length (now s) ≤ length (now tape)) ⌝ }
+    ensures { λ r. ⌜ asWrote r (now (tape .exit)) ≡ onTape bodyWords (now (tape .entry)) out (normalBody (now (s .entry)) (c .at)) ⌝ }
+    ensures { λ r. ⌜ roomy r ⌝ }
+{
+    let o1 = begin(tape, out, NORMAL, 0);
+    literals(c, s, tape, o1)
+}
+
+// A weight body behind its kind: a lower bound, a count, and literal and weight in turn.
+fn weight_body(c: Cursor, s: &[u8], tape: &mut [u32], out: usize) -> Wrote
+    requires { ⌜ (out ≤ c .at) × (length (now s) ≤ length (now tape)) ⌝ }
+    ensures { λ r. ⌜ asWrote r (now (tape .exit)) ≡ onTape bodyWords (now (tape .entry)) out (weightBody (now (s .entry)) (c .at)) ⌝ }
+    ensures { λ r. ⌜ roomy r ⌝ }
+{
+    let a = c.next_natural(s, LARGEST_BOUND, Kind::Bounds);
+    let WordField::Got(k, d) = a else {
+        return Wrote::Refused(a.refusal());
+    };
+    let o1 = begin(tape, out, WEIGHTS, k);
+    d.counted(s, Item::Premise, MOST_COUNT, Kind::Bounds, tape, o1)
+}
+
+// A body: its kind, and what is behind it.
 fn body(c: Cursor, s: &[u8], tape: &mut [u32], out: usize) -> Wrote
     requires { ⌜ (out ≤ c .at) × (length (now s) ≤ length (now tape)) ⌝ }
     ensures { λ r. ⌜ asWrote r (now (tape .exit)) ≡ onTape bodyWords (now (tape .entry)) out (body (now (s .entry)) (c .at)) ⌝ }
     ensures { λ r. ⌜ roomy r ⌝ }
 {
-    let a = body_kind(c, s);
-    let Passed::Got(d) = a else {
+    let a = c.next_natural(s, 1, Kind::Grammar);
+    let WordField::Got(kind, d) = a else {
         return Wrote::Refused(a.refusal());
     };
-    literals(d, s, tape, out)
+    if kind == 0 {
+        return normal_body(d, s, tape, out);
+    }
+    weight_body(d, s, tape, out)
 }
 
 // A rule: head and body.

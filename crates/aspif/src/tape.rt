@@ -19,7 +19,7 @@ pub fn put(tape: &mut [u32], out: usize, w: u32) -> usize
     out + 1
 }
 
-// Stores the kind of a statement and its first number, and gives the place after them.
+// Stores a kind and the first number behind it, and gives the place after them.
 pub fn begin(tape: &mut [u32], out: usize, kind: u32, w: u32) -> usize
     requires { ⌜ out + 2 ≤ length (now tape) ⌝ }
     ensures { λ r. ⌜ (now (tape .exit) ≡ sets (now (tape .entry)) out (kind ∷ w ∷ [])) × (r ≡ out + 2) ⌝ }

@@ -17,6 +17,11 @@ pub const HEADS: usize = 2;
 
 pub const FIRST_HEAD: usize = 3;
 
+// Of a body, from its kind on: its lower bound, and the list of its literals or premises.
+pub const LOWER_BOUND: usize = 1;
+
+pub const PREMISES: usize = 2;
+
 // Of a theory statement: the number of the term, the element or the atom.
 pub const OF: usize = 1;
 

@@ -1,4 +1,4 @@
--- Believed: document 01, 'Numbers that bound it'. Assumes nothing.
+-- Believed: document 01, 'Numbers that bound it', and those of W1. Assumes nothing.
 use Prim.Native.Nat.{ℕ}
 
 -- the bytes of the longest text
@@ -22,6 +22,14 @@ mostCount = 4096
 -- a numeric term, with or without a minus
 abbrev pub largestNumber : ℕ
 largestNumber = 1000000
+
+-- the lower bound of a weight body: no number of a text may be larger
+abbrev pub largestBound : ℕ
+largestBound = 1000000000
+
+-- a weight; it is 1 or more
+abbrev pub largestWeight : ℕ
+largestWeight = 100000
 
 -- the rooms: bytes for the timetable, places for the cycle
 abbrev pub tableRoom : ℕ

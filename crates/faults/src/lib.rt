@@ -22,6 +22,12 @@ pub const MOST_COUNT: u32 = 4096;
 // The largest numeric term.
 pub const LARGEST_NUMBER: u32 = 1000000;
 
+// The largest lower bound of a weight body.
+pub const LARGEST_BOUND: u32 = 1000000000;
+
+// The largest weight.
+pub const LARGEST_WEIGHT: u32 = 100000;
+
 // The bytes of the timetable room.
 pub const TABLE_ROOM: usize = 24592;
 

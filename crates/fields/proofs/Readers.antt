@@ -9,10 +9,10 @@ use lib.Dec.{eqb, leb, ltb, lit<}
 use lib.ListN.{length}
 use Rattle.basics.specs.Bools.{pick}
 use Rattle.basics.specs.Lists.{All}
-use Rattle.faults.specs.Limits.{lastAtom, lastTerm, lastElement, mostCount}
+use Rattle.faults.specs.Limits.{lastAtom, lastTerm, lastElement, mostCount, largestWeight}
 use Rattle.fields.specs.Reading.{Reading, found, fault, Reader, andThen, placed}
-use Rattle.fields.specs.Fields.{space, feed, minusSign, byteAt, byte, bytes, lineEnd, textEnd, allPositive, field, isNatural, value, natural, next, nextNatural, naturalThen, negative, integer, nextInteger, literal, atom, nextAtom, nextTerm, nextElement, char, item, items, counted, string, restLength, rest}
-use Rattle.fields.specs.inner.Kept.{IsAtom, Fits, ByteOf, ItemKept}
+use Rattle.fields.specs.Fields.{space, feed, minusSign, byteAt, byte, bytes, lineEnd, textEnd, allPositive, field, isNatural, value, natural, next, nextNatural, naturalThen, negative, integer, nextInteger, literal, fromOne, atom, nextAtom, nextTerm, nextElement, weightUnit, nextWeight, premise, char, item, items, counted, string, restLength, rest}
+use Rattle.fields.specs.inner.Kept.{IsAtom, Fits, ByteOf, IsWeight, ItemKept}
 use Rattle.fields.specs.declared.Item.{Item}
 use Rattle.fields.proofs.Decimal.{natural-some}
 use Rattle.fields.proofs.Naturals.{field-within, there}
@@ -159,6 +159,12 @@ unfolding naturalThen
 naturalThen-reads k most b h i s at =
     reads-then (nextNatural-reads k most h s at) (λ v n l j. reads-then (byte-reads b i s n) (λ u m q w. reads-found l))
 
+pub fromOne-reads : (k most : ℕ) → ByReading k → (s : List ℕ) (at : ℕ) → Reads (λ v. (0 < v) × (v ≤ most)) s at 1 (fromOne k most s at)
+unfolding fromOne
+fromOne-reads k most b s at =
+    reads-then (natural-reads 5 most by-bounds s at) (λ v n h l.
+    reads-unless (eqb v 0) k at v b (omega arith) (λ q. (omega (arith, eqb-false v 0 q), h)))
+
 -- a natural that was read, whatever number refuses it beyond
 pub natural-within : (k most : ℕ) (s : List ℕ) (at v n : ℕ) → found v n ≡ natural k most s at → (v ≤ most) × (at < n) × (n ≤ length s)
 unfolding natural
@@ -212,9 +218,7 @@ literal-reads s at =
 
 pub atom-reads : (k : ℕ) → ByReading k → (s : List ℕ) (at : ℕ) → Reads IsAtom s at 1 (atom k s at)
 unfolding atom
-atom-reads k b s at =
-    reads-then (natural-reads 5 lastAtom by-bounds s at) (λ v n h l.
-    reads-unless (eqb v 0) k at v b (omega arith) (λ q. (omega (arith, eqb-false v 0 q), h)))
+atom-reads k = fromOne-reads k lastAtom
 
 pub nextAtom-reads : (k : ℕ) → ByReading k → (s : List ℕ) (at : ℕ) → Reads IsAtom s at 2 (nextAtom k s at)
 unfolding nextAtom
@@ -227,6 +231,26 @@ nextTerm-reads = nextNatural-reads 5 lastTerm by-bounds
 pub nextElement-reads : (s : List ℕ) (at : ℕ) → Reads (λ v. v ≤ lastElement) s at 2 (nextElement s at)
 unfolding nextElement
 nextElement-reads = nextNatural-reads 5 lastElement by-bounds
+
+-- ---- a literal and its weight
+
+pub nextLiteral-reads : (s : List ℕ) (at : ℕ) → Reads (λ w. IsAtom (w / 2)) s at 2 (next literal s at)
+nextLiteral-reads s at = next-reads literal s at (literal-reads s)
+
+pub nextWeight-reads : (s : List ℕ) (at : ℕ) → Reads IsWeight s at 2 (nextWeight s at)
+unfolding nextWeight
+nextWeight-reads s at = next-reads (fromOne 5 largestWeight) s at (fromOne-reads 5 largestWeight by-bounds s)
+
+-- the word of both says each
+pub premise-parts : (l w : ℕ) → IsAtom (l / 2) → ((weightUnit * w + l) % weightUnit ≡ l) × ((weightUnit * w + l) / weightUnit ≡ w)
+premise-parts l w h = (omega (arith, h .1), omega (arith, h .1))
+
+pub premise-reads : (s : List ℕ) (at : ℕ) → Reads (ItemKept s of.Premise) s at 4 (premise s at)
+unfolding premise
+premise-reads s at =
+    reads-then (nextLiteral-reads s at) (λ l n h i.
+    reads-then (nextWeight-reads s n) (λ w m g j.
+    let p = premise-parts l w h in reads-found (rw (p .0) h, rw (p .1) g)))
 
 -- ---- counted lists and strings
 
@@ -244,7 +268,8 @@ char-reads s at = go (eqb (byteAt s at) 0) refl
 pub item-reads : (what : Item) (s : List ℕ) (at : ℕ) → Reads (ItemKept s what) s at 1 (item what s at)
 unfolding item
 item-reads of.Atom s at = reads-so (λ v h. h) (omega arith) (nextAtom-reads 5 by-bounds s at)
-item-reads of.Literal s at = reads-so (λ v h. h) (omega arith) (next-reads literal s at (literal-reads s))
+item-reads of.Literal s at = reads-so (λ v h. h) (omega arith) (nextLiteral-reads s at)
+item-reads of.Premise s at = reads-so (λ v h. h) (omega arith) (premise-reads s at)
 item-reads of.Term s at = reads-so (λ v h. h) (omega arith) (nextTerm-reads s at)
 item-reads of.Element s at = reads-so (λ v h. h) (omega arith) (nextElement-reads s at)
 item-reads of.Char s at = char-reads s at

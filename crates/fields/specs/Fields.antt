@@ -6,7 +6,7 @@ use mathlib.Core.Bool.{Bool, true, false, _||_, _&&_}
 use lib.ListN.{length, getD, drop}
 use lib.Dec.{leb, ltb, eqb}
 use Rattle.basics.specs.Bools.{pick}
-use Rattle.faults.specs.Limits.{lastAtom, lastTerm, lastElement, mostCount}
+use Rattle.faults.specs.Limits.{lastAtom, lastTerm, lastElement, mostCount, largestWeight}
 use Rattle.fields.specs.Reading.{found, fault, Reader, andThen, _>>=_, _>>_, pure, placed}
 use Rattle.fields.specs.declared.Item.{Item}
 use Rattle.fields.specs.declared.Item.the-variants as of
@@ -108,6 +108,10 @@ natural k most s at =
     (pick (leb (value 0 f) most) (found (value 0 f) (at + length f)) (fault k at))
     (fault 3 at)
 
+-- a natural from 1 to `most`, refused by 5 beyond; k is the refusal of 0
+unfoldable pub fromOne : (k most : ℕ) → Reader ℕ
+fromOne k most s at = andThen (natural 5 most s at) (λ v n. pick (eqb v 0) (fault k at) (found v n))
+
 -- a space, and what p reads after it
 abbrev pub next : {A : Type 0} → Reader A → Reader A
 next p = do
@@ -149,7 +153,7 @@ literal s at = andThen (integer lastAtom lastAtom s at) (λ v n. pick (eqb v 0) 
 
 -- an atom from 1 to the last; k is the refusal of atom 0
 unfoldable pub atom : (k : ℕ) → Reader ℕ
-atom k s at = andThen (natural 5 lastAtom s at) (λ v n. pick (eqb v 0) (fault k at) (found v n))
+atom k = fromOne k lastAtom
 
 unfoldable pub nextAtom : (k : ℕ) → Reader ℕ
 nextAtom k = next (atom k)
@@ -160,16 +164,31 @@ nextTerm = nextNatural 5 lastTerm
 unfoldable pub nextElement : Reader ℕ
 nextElement = nextNatural 5 lastElement
 
+-- ---- a literal and its weight, kept as one number: the literal's, and a unit for each 1 of the weight
+
+abbrev pub weightUnit : ℕ
+weightUnit = 16384
+
+unfoldable pub nextWeight : Reader ℕ
+nextWeight = next (fromOne 5 largestWeight)
+
+unfoldable pub premise : Reader ℕ
+premise = do
+  l ← next literal
+  w ← nextWeight
+  pure (weightUnit * w + l)
+
 -- ---- counted lists and strings
 
 -- a byte of a string; past the end stands 0
 unfoldable pub char : Reader ℕ
 char s at = pick (isForbidden (byteAt s at)) (fault 3 at) (found (byteAt s at) (at + 1))
 
--- an item of a list: a number after a space, or a byte of a string
+-- an item of a list: a number after a space, a literal and its weight, or a byte of a string
 unfoldable pub item : Item → Reader ℕ
 item of.Atom = nextAtom 5
 item of.Literal = next literal
+item of.Premise = premise
 item of.Term = nextTerm
 item of.Element = nextElement
 item of.Char = char

@@ -2,8 +2,8 @@
 ghost use mathlib.Core.Path.{_≡_};
 ghost use Prim.Native.Nat.{_+_, _-_, _≤_, min};
 ghost use lib.ListN.{length, drop};
+ghost use Rattle.faults.specs.Limits.{largestBound};
 ghost use Rattle.fields.specs.Fields.{byteAt, upTo, isEither, field, zeroDigit, allDigits, isNatural, value};
-ghost use Rattle.fields.specs.inner.Bounds.{largestBound};
 use crate::FEED;
 use crate::NINE_DIGIT;
 use crate::SPACE;

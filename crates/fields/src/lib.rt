@@ -32,6 +32,9 @@ const ZERO_DIGIT: u8 = 48;
 // The digit 9.
 const NINE_DIGIT: u8 = 57;
 
+// What 1 of a weight is in the word of a literal and its weight; the literal's own word is below it.
+pub const WEIGHT_UNIT: u32 = 16384;
+
 // A place in the text.
 pub struct Cursor {
     pub at: usize,
@@ -77,6 +80,7 @@ pub enum Wrote {
 pub enum Item {
     Atom,
     Literal,
+    Premise,
     Term,
     Element,
     Char,

@@ -1,12 +1,11 @@
-// The fields of a line: a byte, a natural, an integer, a literal, an atom, a term number, an element number.
+// The fields of a line: a byte, a natural, an integer, a literal, an atom, a term number, an element number, a weight.
 ghost use mathlib.Core.Path.{_≡_};
 ghost use Prim.Native.Nat.{_+_, _≤_, _<_};
 ghost use mathlib.Core.Bool.{true};
 ghost use lib.ListN.{length};
-ghost use Rattle.faults.specs.Limits.{largestNumber};
+ghost use Rattle.faults.specs.Limits.{largestNumber, largestBound};
 ghost use Rattle.faults.specs.Values.{number};
-ghost use Rattle.fields.specs.Fields.{allPositive, byteAt, byte, bytes, lineEnd, textEnd, natural, nextNatural, naturalThen, field, negative, integer, nextInteger, literal, atom, nextAtom, nextTerm, nextElement, next};
-ghost use Rattle.fields.specs.inner.Bounds.{largestBound};
+ghost use Rattle.fields.specs.Fields.{allPositive, byteAt, byte, bytes, lineEnd, textEnd, natural, nextNatural, naturalThen, field, negative, integer, nextInteger, literal, fromOne, atom, nextAtom, nextTerm, nextElement, nextWeight, next};
 ghost use Rattle.fields.specs.inner.Values.{asPassed, asWord, asAtom, asTerm, asElement};
 use crate::AtomField;
 use crate::Cursor;
@@ -24,6 +23,7 @@ use crate::digits::value_of;
 use faults::AtomNo;
 use faults::ElementNo;
 use faults::Kind;
+use faults::LARGEST_WEIGHT;
 use faults::LAST_ATOM;
 use faults::LAST_ELEMENT;
 use faults::LAST_TERM;
@@ -261,21 +261,33 @@ impl Cursor {
         c.literal(s)
     }
 
-    // An atom: a natural other than 0, which is refused as `zero`.
-    fn atom(self, s: &[u8], zero: Kind) -> AtomField
-        ensures { λ r. ⌜ asAtom r ≡ atom (number zero) (now (s .entry)) (self .at) ⌝ }
+    // A natural from 1 to `most`; 0 is refused as `zero`.
+    fn from_one(self, s: &[u8], most: u32, zero: Kind) -> WordField
+        requires { ⌜ most ≤ largestBound ⌝ }
+        ensures { λ r. ⌜ asWord r ≡ fromOne (number zero) most (now (s .entry)) (self .at) ⌝ }
     {
-        let a = self.natural(s, LAST_ATOM, Kind::Bounds);
+        let a = self.natural(s, most, Kind::Bounds);
         let WordField::Got(v, n) = a else {
-            return AtomField::Refused(a.refusal());
+            return a;
         };
         if v == 0 {
             let at = self.at;
-            return AtomField::Refused(Refusal {
+            return WordField::Refused(Refusal {
                 kind: zero,
                 place: at,
             });
         }
+        WordField::Got(v, n)
+    }
+
+    // An atom; atom 0 is refused as `zero`.
+    fn atom(self, s: &[u8], zero: Kind) -> AtomField
+        ensures { λ r. ⌜ asAtom r ≡ atom (number zero) (now (s .entry)) (self .at) ⌝ }
+    {
+        let a = self.from_one(s, LAST_ATOM, zero);
+        let WordField::Got(v, n) = a else {
+            return AtomField::Refused(a.refusal());
+        };
         AtomField::Got(AtomNo(v), n)
     }
 
@@ -310,5 +322,16 @@ impl Cursor {
             return ElementField::Refused(a.refusal());
         };
         ElementField::Got(ElementNo(v), c)
+    }
+
+    // A space, and the weight after it.
+    pub(crate) fn next_weight(self, s: &[u8]) -> WordField
+        ensures { λ r. ⌜ asWord r ≡ nextWeight (now (s .entry)) (self .at) ⌝ }
+    {
+        let a = self.byte(s, SPACE);
+        let Passed::Got(c) = a else {
+            return WordField::Refused(a.refusal());
+        };
+        c.from_one(s, LARGEST_WEIGHT, Kind::Bounds)
     }
 }

@@ -4,7 +4,7 @@ ghost use Prim.Native.Nat.{_≤_, _<_};
 ghost use lib.ListN.{length};
 ghost use Rattle.faults.specs.Limits.{mostCount};
 ghost use Rattle.faults.specs.Values.{number};
-ghost use Rattle.fields.specs.Fields.{char, item, items, counted, rest};
+ghost use Rattle.fields.specs.Fields.{char, premise, item, items, counted, rest};
 ghost use Rattle.fields.specs.inner.Bounds.{longestRead};
 ghost use Rattle.fields.specs.inner.Tape.{onTape, bare, listed};
 ghost use Rattle.fields.specs.inner.Values.{asWord, asWrote, roomy};
@@ -12,6 +12,7 @@ use crate::AtomField;
 use crate::Cursor;
 use crate::FEED;
 use crate::Item;
+use crate::WEIGHT_UNIT;
 use crate::WordField;
 use crate::Wrote;
 use crate::digits::peek;
@@ -55,6 +56,23 @@ impl Cursor {
         WordField::Got(x.0, c)
     }
 
+    // A literal and its weight, as one word.
+    fn premise(self, s: &[u8]) -> WordField
+        ensures { λ r. ⌜ asWord r ≡ premise (now (s .entry)) (self .at) ⌝ }
+    {
+        let a = self.next_literal(s);
+        let WordField::Got(l, c) = a else {
+            return a;
+        };
+        let b = c.next_weight(s);
+        let WordField::Got(w, d) = b else {
+            return b;
+        };
+        let weight = WEIGHT_UNIT * w;
+        let code = weight + l;
+        WordField::Got(code, d)
+    }
+
     // An item of a list, as a word.
     fn item(self, s: &[u8], what: Item) -> WordField
         ensures { λ r. ⌜ asWord r ≡ item what (now (s .entry)) (self .at) ⌝ }
@@ -62,6 +80,7 @@ impl Cursor {
         match what {
             Item::Atom => self.atom_word(s),
             Item::Literal => self.next_literal(s),
+            Item::Premise => self.premise(s),
             Item::Term => self.next_natural(s, LAST_TERM, Kind::Bounds),
             Item::Element => self.next_natural(s, LAST_ELEMENT, Kind::Bounds),
             Item::Char => self.char_at(s),

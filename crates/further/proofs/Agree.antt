@@ -2,15 +2,17 @@
 use Prim.Native.Nat.{ℕ}
 use mathlib.Core.Path.{_≡_, refl, sym, _∙_}
 use mathlib.Core.Bool.{true, false}
-use mathlib.Core.List.{List, [], _∷_, _++_}
+use mathlib.Core.List.{List, [], _∷_, _++_, map}
 use mathlib.Core.Option.{Option, some, none}
 use lib.Dec.{eqb}
 use Rattle.basics.specs.Lists.{among}
 use Rattle.basics.proofs.Bools.{or-left, or-right, and-cases}
 use Rattle.basics.proofs.Bitmaps.{first-in, among-append}
-use Rattle.aspif.specs.Statements.{Literal, positive, negated, Head, empty, single, choice, headAtoms, Body, normal, Statement, Rule, bodyAtoms, literalAtoms, statementAtoms, ruleIn}
+use Rattle.aspif.specs.Statements.{Literal, positive, negated, Head, empty, single, choice, headAtoms, Premise, Body, normal, weights, Statement, Rule, atomOf, literalAtoms, premiseAtom, bodyAtoms, statementAtoms, ruleIn}
 use Rattle.aspif.proofs.Decoding.{rule-is}
-use Rattle.stable.specs.Meaning.{Atoms, allTrue, bodyTrue, brokenRule, broken, negatedOutside, kept, positives, reduced, reductHead, Obeyed}
+use Rattle.stable.specs.Meaning.{Atoms, one, premises, bodyTrue, brokenRule, broken, reduct, reductHead, Obeyed}
+use Rattle.stable.specs.inner.Steps.{literalHolds, reachedBy, bodyHolds}
+use Rattle.stable.proofs.Reduct.{holds-self, holds-reduct}
 use Rattle.further.proofs.Lists.{rest-in}
 
 -- X and Y have the same atoms of a list
@@ -32,34 +34,41 @@ module _ (X Y : Atoms) where
   agree-rest : (b : ℕ) (l : List ℕ) → Agree X Y (b ∷ l) → Agree X Y l
   agree-rest b l h a e = h a (rest-in a b l e)
 
-  -- ---- bodies
+-- ---- bodies
 
-  true-same : (ls : List Literal) → Agree X Y (literalAtoms ls) → allTrue X ls ≡ allTrue Y ls
-  true-same [] h = refl
-  true-same (positive a ∷ b) h = rw (agree-first a (literalAtoms b) h, true-same b (agree-rest a (literalAtoms b) h))
-  true-same (negated a ∷ b) h = rw (agree-first a (literalAtoms b) h, true-same b (agree-rest a (literalAtoms b) h))
+-- the atoms of a body are those of what may count for it
+counting : (ls : List Literal) → map premiseAtom (map one ls) ≡ literalAtoms ls
+counting [] = refl
+counting (l ∷ ls) = rw (counting ls)
 
+premise-atoms : (b : Body) → map premiseAtom (premises b) ≡ bodyAtoms b
+premise-atoms (normal ls) = counting ls
+premise-atoms (weights k ps) = refl
+
+-- where X and Y agree, and S and T do
+module _ (X Y S T : Atoms) where
+  literal-same : (l : Literal) → X (atomOf l) ≡ Y (atomOf l) → S (atomOf l) ≡ T (atomOf l) → literalHolds X S l ≡ literalHolds Y T l
+  literal-same (positive a) x s = s
+  literal-same (negated a) x s = rw x
+
+  reached-same : (ps : List Premise) → Agree X Y (map premiseAtom ps) → Agree S T (map premiseAtom ps) → reachedBy X S ps ≡ reachedBy Y T ps
+  reached-same [] x s = refl
+  reached-same (p ∷ ps) x s =
+      let a = premiseAtom p in
+      let l = map premiseAtom ps in
+      rw (literal-same (p .literal) (agree-first X Y a l x) (agree-first S T a l s), reached-same ps (agree-rest X Y a l x) (agree-rest S T a l s))
+
+  holds-same : (b : Body) → Agree X Y (bodyAtoms b) → Agree S T (bodyAtoms b) → bodyHolds X S b ≡ bodyHolds Y T b
+  holds-same b x s = rw (reached-same (premises b) (rw (premise-atoms b) x) (rw (premise-atoms b) s))
+
+  -- the one reduct of a body is true exactly if the other is
+  reduct-same : (b : Body) → Agree X Y (bodyAtoms b) → Agree S T (bodyAtoms b) → bodyTrue S (reduct X b) ≡ bodyTrue T (reduct Y b)
+  reduct-same b x s = holds-reduct X S b ∙ holds-same b x s ∙ sym (holds-reduct Y T b)
+
+module _ (X Y : Atoms) where
   -- a body is true by both or by neither
-  pub body-same : (b : Body) → Agree X Y (bodyAtoms b) → bodyTrue X b ≡ bodyTrue Y b
-  body-same (normal ls) = true-same ls
-
-  outside-same : (ls : List Literal) → Agree X Y (literalAtoms ls) → negatedOutside X ls ≡ negatedOutside Y ls
-  outside-same [] h = refl
-  outside-same (positive a ∷ b) h = outside-same b (agree-rest a (literalAtoms b) h)
-  outside-same (negated a ∷ b) h = rw (agree-first a (literalAtoms b) h, outside-same b (agree-rest a (literalAtoms b) h))
-
-  -- the reduct keeps its rule by both or by neither
-  pub kept-same : (b : Body) → Agree X Y (bodyAtoms b) → kept X b ≡ kept Y b
-  kept-same (normal ls) = outside-same ls
-
-  positives-same : (ls : List Literal) → Agree X Y (literalAtoms ls) → allTrue X (positives ls) ≡ allTrue Y (positives ls)
-  positives-same [] h = refl
-  positives-same (positive a ∷ b) h = rw (agree-first a (literalAtoms b) h, positives-same b (agree-rest a (literalAtoms b) h))
-  positives-same (negated a ∷ b) h = positives-same b (agree-rest a (literalAtoms b) h)
-
-  -- what the reduct leaves of it is true by both or by neither
-  pub reduced-same : (b : Body) → Agree X Y (bodyAtoms b) → bodyTrue X (reduced b) ≡ bodyTrue Y (reduced b)
-  reduced-same (normal ls) = positives-same ls
+  body-same : (b : Body) → Agree X Y (bodyAtoms b) → bodyTrue X b ≡ bodyTrue Y b
+  body-same b h = sym (holds-self X b) ∙ holds-same X Y X Y b h h ∙ holds-self Y b
 
   -- ---- heads
 
@@ -73,7 +82,7 @@ module _ (X Y : Atoms) where
 
   rule-same : (h : Head) (b : Body) → Agree X Y (headAtoms h ++ bodyAtoms b) → brokenRule X h b ≡ brokenRule Y h b
   rule-same empty b g = body-same b g
-  rule-same (single a) b g = rw (agree-first a (bodyAtoms b) g, body-same b (agree-rest a (bodyAtoms b) g))
+  rule-same (single a) b g = rw (agree-first X Y a (bodyAtoms b) g, body-same b (agree-rest X Y a (bodyAtoms b) g))
   rule-same (choice hs) b g = refl
 
   -- a line is broken by both or by neither
@@ -92,9 +101,9 @@ head-in X (choice hs) a e = and-cases (among a hs) (X a) e .0
 
 -- where X and Y agree on a rule's atoms, and S and T do, a model by the one is a model by the other
 pub model-same : (X Y S T : Atoms) (r : Rule) → Agree X Y (headAtoms (r .head) ++ bodyAtoms (r .body)) → Agree S T (headAtoms (r .head) ++ bodyAtoms (r .body)) → Obeyed X S r → Obeyed Y T r
-model-same X Y S T r x s m k p a e =
+model-same X Y S T r x s m p a e =
     let h = r .head in
     let b = r .body in
     let i = head-same Y X h (λ c j. sym (agree-left X Y (headAtoms h) (bodyAtoms b) x c j)) a e in
     sym (agree-left S T (headAtoms h) (bodyAtoms b) s a (head-in Y h a e))
-    ∙ m (kept-same X Y b (agree-right X Y (headAtoms h) (bodyAtoms b) x) ∙ k) (reduced-same S T b (agree-right S T (headAtoms h) (bodyAtoms b) s) ∙ p) a i
+    ∙ m (reduct-same X Y S T b (agree-right X Y (headAtoms h) (bodyAtoms b) x) (agree-right S T (headAtoms h) (bodyAtoms b) s) ∙ p) a i

@@ -20,11 +20,11 @@ use Rattle.further.proofs.Added.{says-on, says-back, old-apart, line-ap
 -- a set that has the new atoms is a model of each rule that is added
 added-model : (q : Ready) (new : List ℕ) (Y T : Atoms) → ((a : ℕ) → among a new ≡ true → T a ≡ true) → (h : Head) (b : Body)
     → Added (q .lines) new (rule h b) → Obeyed Y T (record { head = h; body = b })
-added-model q new Y T f h b (a-fact c i) k p a e = rw (eqb-true a c e) (f c i)
+added-model q new Y T f h b (a-fact c i) p a e = rw (eqb-true a c e) (f c i)
 
 -- a fact is in every model
 fact-in : (q′ : Ready) (X ext S : Atoms) (a : ℕ) → HasRule (q′ .lines) (fact a) → Closed X ext (q′ .lines) S → S a ≡ true
-fact-in q′ X ext S a x c = c .rules (fact a) x refl refl a (eq-eqb a a refl)
+fact-in q′ X ext S a x c = c .rules (fact a) x refl a (eq-eqb a a refl)
 
 module _ (q q′ : Ready) (new : List ℕ) (l : Later q q′ new) where
   -- a model of the new reduct is one of the old

@@ -6,9 +6,9 @@ use mathlib.Core.List.{List, [], _∷_, _++_}
 use lib.Dec.{lit≤}
 use lib.IntN.{pos}
 use Rattle.faults.specs.Answer.{got}
-use Rattle.fields.specs.Fields.{byteAt, byte, bytes, lineEnd, textEnd, upTo, field, allDigits, isNatural, value, natural, nextNatural, negative, integer, nextInteger, literal, atom, nextAtom, nextTerm, nextElement, char, item, items, counted, naturalThen, string}
+use Rattle.fields.specs.Fields.{byteAt, byte, bytes, lineEnd, textEnd, upTo, field, allDigits, isNatural, value, natural, nextNatural, negative, integer, nextInteger, literal, fromOne, atom, nextAtom, nextTerm, nextElement, char, item, items, counted, naturalThen, string}
 use Rattle.aspif.specs.Statements.{positive, single, choice, normal, num, comp, elem, guard, defines, collects, states, Statement, rule, theory, Line}
-use Rattle.aspif.specs.Grammar.{lineOf, heads, bodyKind, literals, body, ruleLine, numericLine, stringLine, compoundLine, elementLine, front, guardedLine, theoryOf, theoryPart, statementOf, lastLine, lines, noTag, firstLine, plan, statements}
+use Rattle.aspif.specs.Grammar.{lineOf, heads, normalBody, literals, body, ruleLine, numericLine, stringLine, compoundLine, elementLine, front, guardedLine, theoryOf, theoryPart, statementOf, lastLine, lines, noTag, firstLine, plan, statements}
 use Rattle.aspif.specs.Candidate.{atomAbove, ending, ascending, candidateLine, candidate}
 use Rattle.terms.specs.Says.{term, elementAt}
 use Rattle.terms.specs.Terms.{Stated, taken, allDefined, sameBytes, isString, isMinus, opposite, boundOf, pairOf, pairIn, differenceOf, faulty, differencesFrom, differences}
@@ -79,7 +79,7 @@ pub record Texts : Type 0 where
 
 -- each is computed from its bytes
 pub texts : Texts
-unfolding textP3 textP7 textP45 textQ3 byteAt byte bytes lineEnd textEnd upTo field allDigits isNatural value natural nextNatural negative integer nextInteger literal atom nextAtom nextTerm nextElement char item items counted naturalThen string lineOf heads bodyKind literals body ruleLine numericLine stringLine compoundLine elementLine front guardedLine theoryOf theoryPart statementOf lastLine lines noTag firstLine plan statements
+unfolding textP3 textP7 textP45 textQ3 byteAt byte bytes lineEnd textEnd upTo field allDigits isNatural value natural nextNatural negative integer nextInteger literal fromOne atom nextAtom nextTerm nextElement char item items counted naturalThen string lineOf heads normalBody literals body ruleLine numericLine stringLine compoundLine elementLine front guardedLine theoryOf theoryPart statementOf lastLine lines noTag firstLine plan statements
 texts = record {
   p3 = record { short = lit≤ tt; lines = refl; stated = differences-with 5 179 3 242 };
   p7 = record { short = lit≤ tt; lines = refl; stated = differences-with 5 179 7 242 };

@@ -10,7 +10,7 @@ use borrow.Author.Tests.{eqb-true, eq-eqb}
 use Rattle.basics.specs.Lists.{among, All}
 use Rattle.basics.proofs.Bools.{and-cases}
 use Rattle.aspif.specs.Statements.{Head, empty, single, choice, Line, Rule, ruleIn}
-use Rattle.stable.specs.Meaning.{Atoms, HasRule, bodyTrue, kept, reduced, reductHead, Closed, InLeast, Founded, SmallestUnfounded}
+use Rattle.stable.specs.Meaning.{Atoms, HasRule, bodyTrue, reduct, reductHead, Closed, InLeast, Founded, SmallestUnfounded}
 use Rattle.judge.proofs.Ascent.{member, of-member}
 
 -- ---- the test
@@ -27,7 +27,7 @@ headCarries X S (choice hs) = carries X S hs
 
 abbrev ruleCarries : (X S : Atoms) → Option Rule → Bool
 ruleCarries X S none = true
-ruleCarries X S (some r) = not (kept X (r .body) && bodyTrue S (reduced (r .body))) || headCarries X S (r .head)
+ruleCarries X S (some r) = not (bodyTrue S (reduct X (r .body))) || headCarries X S (r .head)
 
 -- S has the head of each rule of the reduct by X whose body is true in S
 abbrev pub allCarry : (X S : Atoms) → List Line → Bool
@@ -63,7 +63,7 @@ module _ (X S : Atoms) where
 pub model : (cs : List ℕ) (ext : Atoms) (ls : List Line) (S : Atoms) → carries ext S cs ≡ true → allCarry (λ a. among a cs) S ls ≡ true → Closed (λ a. among a cs) ext ls S
 model cs ext ls S f h = record {
   facts = λ a e x. carried ext S cs f a x e;
-  rules = λ r n kp bo a e. head-carried (λ c. among c cs) S (r .head) (then (kept (λ c. among c cs) (r .body) && bodyTrue S (reduced (r .body))) _ (said-carried (λ c. among c cs) S ls h r n) (rw (kp, bo))) a e;
+  rules = λ r n bo a e. head-carried (λ c. among c cs) S (r .head) (then (bodyTrue S (reduct (λ c. among c cs) (r .body))) _ (said-carried (λ c. among c cs) S ls h r n) bo) a e;
 }
 
 -- where each atom of a candidate is in every model of the reduct, none is unfounded

@@ -130,13 +130,13 @@ the h ls = record { head = h; body = normal ls }
 
 module _ (five eight a c : ℕ) (ext : Atoms) where
   least-3 : (X : Atoms) → InLeast X ext (linesP five eight a c) 3
-  least-3 X S m = m .rules (the (single 3) []) (inr (inr (inl refl))) refl refl 3 refl
+  least-3 X S m = m .rules (the (single 3) []) (inr (inr (inl refl))) refl 3 refl
 
   least-1 : InLeast (λ n. among n (1 ∷ 2 ∷ 3 ∷ [])) ext (linesP five eight a c) 1
-  least-1 S m = m .rules (the (choice (1 ∷ [])) []) (inl refl) refl refl 1 refl
+  least-1 S m = m .rules (the (choice (1 ∷ [])) []) (inl refl) refl 1 refl
 
   least-2 : InLeast (λ n. among n (1 ∷ 2 ∷ 3 ∷ [])) ext (linesP five eight a c) 2
-  least-2 S m = m .rules (the (single 2) (positive 1 ∷ [])) (inr (inl refl)) refl (rw (least-1 S m)) 2 refl
+  least-2 S m = m .rules (the (single 2) (positive 1 ∷ [])) (inr (inl refl)) (rw (least-1 S m)) 2 refl
 
   founded-1-2-3 : Founded (λ n. among n (1 ∷ 2 ∷ 3 ∷ [])) ext (linesP five eight a c)
   founded-1-2-3 = founded-by (1 ∷ 2 ∷ 3 ∷ []) ext (linesP five eight a c) (least-1, (least-2, (least-3 (λ n. among n (1 ∷ 2 ∷ 3 ∷ [])), tt)))
@@ -149,7 +149,7 @@ external-founded : Founded (λ n. among n (2 ∷ 3 ∷ [])) (external linesExter
 unfolding taken headed
 external-founded =
     founded-by (2 ∷ 3 ∷ []) (external linesExternal) linesExternal
-    (λ S m. m .facts 2 refl refl, (λ S m. m .rules (the (single 3) []) (inr (inl refl)) refl refl 3 refl, tt))
+    (λ S m. m .facts 2 refl refl, (λ S m. m .rules (the (single 3) []) (inr (inl refl)) refl 3 refl, tt))
 
 -- without atom 1 only 3 is in the least model of P
 p-unfounded : UnfoundedAt (ready (linesP 40 5 117 167) (2 ∷ 3 ∷ [])) 2

@@ -7,9 +7,9 @@ use lib.IntN.{pos, negℤ}
 use lib.ListN.{length}
 use Rattle.faults.specs.Limits.{longestText}
 use Rattle.faults.specs.Answer.{got}
-use Rattle.fields.specs.Fields.{byteAt, byte, bytes, lineEnd, textEnd, upTo, field, allDigits, isNatural, value, natural, nextNatural, negative, integer, nextInteger, literal, atom, nextAtom, nextTerm, nextElement, char, item, items, counted, naturalThen, string}
+use Rattle.fields.specs.Fields.{byteAt, byte, bytes, lineEnd, textEnd, upTo, field, allDigits, isNatural, value, natural, nextNatural, negative, integer, nextInteger, literal, fromOne, atom, nextAtom, nextTerm, nextElement, char, item, items, counted, naturalThen, string}
 use Rattle.aspif.specs.Statements.{positive, negated, single, choice, normal, num, str, comp, elem, guard, defines, collects, states, Statement, rule, theory, Line}
-use Rattle.aspif.specs.Grammar.{lineOf, heads, bodyKind, literals, body, ruleLine, numericLine, stringLine, compoundLine, elementLine, front, guardedLine, theoryOf, theoryPart, statementOf, lastLine, lines, noTag, firstLine, plan, statements}
+use Rattle.aspif.specs.Grammar.{lineOf, heads, normalBody, literals, body, ruleLine, numericLine, stringLine, compoundLine, elementLine, front, guardedLine, theoryOf, theoryPart, statementOf, lastLine, lines, noTag, firstLine, plan, statements}
 use Rattle.aspif.specs.Candidate.{atomAbove, ending, ascending, candidateLine, candidate}
 use Rattle.diffs.specs.Diff.{Diff}
 use Rattle.terms.specs.Says.{term, elementAt, diffWord, minus, atMost}
@@ -122,7 +122,7 @@ pub record Texts : Type 0 where
 
 -- each is computed from its bytes
 pub texts : Texts
-unfolding planP planQ planTight planExternal planLoop planOdd byteAt byte bytes lineEnd textEnd upTo field allDigits isNatural value natural nextNatural negative integer nextInteger literal atom nextAtom nextTerm nextElement char item items counted naturalThen string lineOf heads bodyKind literals body ruleLine numericLine stringLine compoundLine elementLine front guardedLine theoryOf theoryPart statementOf lastLine lines noTag firstLine plan statements
+unfolding planP planQ planTight planExternal planLoop planOdd byteAt byte bytes lineEnd textEnd upTo field allDigits isNatural value natural nextNatural negative integer nextInteger literal fromOne atom nextAtom nextTerm nextElement char item items counted naturalThen string lineOf heads normalBody literals body ruleLine numericLine stringLine compoundLine elementLine front guardedLine theoryOf theoryPart statementOf lastLine lines noTag firstLine plan statements
 texts = record {
   p = record { short = lit≤ tt; lines = refl; stated = differences-P 40 5 117 167 };
   q = record { short = lit≤ tt; lines = refl; stated = differences-P 40 45 117 168 };

@@ -148,7 +148,7 @@ fn run(s: &[u8], holds: Holds) {
 
 // Runs both containers.
 fn main() {
-    let mut buf = io::large_buffer();
+    let mut buf = [0u8; 131072];
     let n = load(b"texts", &mut buf);
     run(&buf[..n], Holds::Texts);
     let m = load(b"candidates", &mut buf);

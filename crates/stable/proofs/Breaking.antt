@@ -11,13 +11,13 @@ use Rattle.basics.proofs.Bools.{and-none, and-all}
 use Rattle.faults.specs.inner.Places.{atomPlaces}
 use Rattle.aspif.specs.Statements.{ruleIn}
 use Rattle.aspif.specs.Grammar.{plainHead}
-use Rattle.aspif.specs.inner.Words.{ruleKind, word, listAt, literalsAt, after, saysAt, linesFrom}
+use Rattle.aspif.specs.inner.Words.{ruleKind, word, listAt, bodyAt, after, saysAt, linesFrom}
 use Rattle.aspif.specs.inner.Kept.{LineOn, Ahead}
 use Rattle.aspif.proofs.Walking.{ahead-next, lines-next}
 use Rattle.aspif.proofs.Decoding.{not-rule}
 use Rattle.stable.specs.Meaning.{Atoms, bodyTrue, brokenRule, broken, unbroken, brokenAt, firstBroken}
 use Rattle.stable.specs.inner.Index.{ruleAt, RuleOn}
-use Rattle.stable.specs.inner.Steps.{allHold}
+use Rattle.stable.specs.inner.Steps.{bodyHolds}
 use Rattle.stable.proofs.Heads.{no-head, one-head, choice-head, plain-head, atom, plain-small, body-holds}
 use Rattle.stable.proofs.Lines.{rule-in, rule-on}
 use Rattle.stable.proofs.Reduct.{holds-self}
@@ -33,10 +33,10 @@ module _ {t : List ℕ} {q : ℕ} (k : RuleOn t q) (X : Atoms) where
     plain = rw (plain-head t q c)
 
     -- the code's walk through the body
-    body : {r : Bool} → r ≡ allHold X X (literalsAt t (q + 2 + 1 + n)) → r ≡ bodyTrue X (ruleAt t q .body)
+    body : {r : Bool} → r ≡ bodyHolds X X (bodyAt t (q + 2 + 1 + n)) → r ≡ bodyTrue X (ruleAt t q .body)
     body b = body-holds k w X X b ∙ holds-self X (ruleAt t q .body)
 
-    pub empty-broken : {r : Bool} → n ≡ 0 → r ≡ allHold X X (literalsAt t (q + 2 + 1 + n)) → r ≡ broken X (some (ruleAt t q))
+    pub empty-broken : {r : Bool} → n ≡ 0 → r ≡ bodyHolds X X (bodyAt t (q + 2 + 1 + n)) → r ≡ broken X (some (ruleAt t q))
     empty-broken z b = body b ∙ sym (plain ∙ rw (no-head t (q + 2) w z))
 
     module _ (m : n ≡ 0 → ⊥) {a : ℕ} (e : a ≡ word t (q + 2 + 1)) where
@@ -50,7 +50,7 @@ module _ {t : List ℕ} {q : ℕ} (k : RuleOn t q) (X : Atoms) where
       pub head-whole : X a ≡ true → false ≡ broken X (some (ruleAt t q))
       head-whole x = sym (alone ∙ rw x (and-none (bodyTrue X (ruleAt t q .body))))
 
-      pub head-broken : {r : Bool} → X a ≡ false → r ≡ allHold X X (literalsAt t (q + 2 + 1 + n)) → r ≡ broken X (some (ruleAt t q))
+      pub head-broken : {r : Bool} → X a ≡ false → r ≡ bodyHolds X X (bodyAt t (q + 2 + 1 + n)) → r ≡ broken X (some (ruleAt t q))
       head-broken x b = body b ∙ sym (alone ∙ rw x (and-all (bodyTrue X (ruleAt t q .body))))
 
 -- ---- the walk

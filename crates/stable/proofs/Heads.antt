@@ -13,11 +13,11 @@ use Rattle.basics.proofs.Bools.{or-none, or-swap}
 use Rattle.faults.specs.inner.Places.{atomPlaces}
 use Rattle.aspif.specs.Statements.{empty, single, choice, inHead}
 use Rattle.aspif.specs.Grammar.{plainHead}
-use Rattle.aspif.specs.inner.Words.{word, wordsFrom, listAt, literalsAt, behind}
+use Rattle.aspif.specs.inner.Words.{word, wordsFrom, listAt, bodyAt, behind}
 use Rattle.aspif.specs.inner.Kept.{SmallHead}
 use Rattle.stable.specs.Meaning.{Atoms, reductHead}
-use Rattle.stable.specs.inner.Index.{ruleAt, LiteralsOn, RuleOn}
-use Rattle.stable.specs.inner.Steps.{allHold, bodyHolds, fires, MarkedOne, AddedMarks}
+use Rattle.stable.specs.inner.Index.{ruleAt, BodyOn, RuleOn}
+use Rattle.stable.specs.inner.Steps.{bodyHolds, fires, MarkedOne, AddedMarks}
 use Rattle.stable.proofs.Lines.{words-next}
 use Rattle.stable.proofs.Marks.{grown-refl, member-set}
 
@@ -73,14 +73,14 @@ module _ {t : List ℕ} {q : ℕ} (k : RuleOn t q) where
   choice-small n = rw (choice-head t q n) at (k .head)
 
   module _ {n : ℕ} (w : n ≡ word t (q + 2)) where
-    pub literals-on : LiteralsOn t (q + 2 + 1 + n)
-    literals-on = rw w (k .body)
+    pub body-on : BodyOn t (q + 2 + 1 + n)
+    body-on = rw w (k .body)
 
-    module _ (X S : Atoms) {r : Bool} (e : r ≡ allHold X S (literalsAt t (q + 2 + 1 + n))) where
+    module _ (X S : Atoms) {r : Bool} (e : r ≡ bodyHolds X S (bodyAt t (q + 2 + 1 + n))) where
       pub body-holds : r ≡ bodyHolds X S (ruleAt t q .body)
       body-holds = e ∙ rw w
 
-    module _ (x f : List ℕ) {r : Bool} (e : r ≡ allHold (isMarked x) (isMarked f) (literalsAt t (q + 2 + 1 + n))) where
+    module _ (x f : List ℕ) {r : Bool} (e : r ≡ bodyHolds (isMarked x) (isMarked f) (bodyAt t (q + 2 + 1 + n))) where
       truth : {v : Bool} → r ≡ v → bodyHolds (isMarked x) (isMarked f) (ruleAt t q .body) ≡ v
       truth g = sym (body-holds (isMarked x) (isMarked f) e) ∙ g
 

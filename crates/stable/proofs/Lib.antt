@@ -1,7 +1,10 @@
 -- What the functions' proofs cite, then the laws of the meaning.
 pub mod Reduct
+pub mod Normal
 pub mod Lines
 pub mod Literals
+pub mod Weighing
+pub mod Bodies
 pub mod Marks
 pub mod Chosen
 pub mod Heads

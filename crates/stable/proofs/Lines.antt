@@ -5,7 +5,7 @@ use mathlib.Core.Option.{some}
 use mathlib.Core.Path.{_≡_, refl}
 use native.Mathlib.Omega.{arith}
 use lib.ListN.{length, getD, length-append}
-use Rattle.aspif.specs.Statements.{Head, empty, single, choice, ruleIn}
+use Rattle.aspif.specs.Statements.{Head, empty, single, choice, Body, normal, weights, ruleIn}
 use Rattle.aspif.specs.inner.Words.{ruleKind, headWords, bodyWords, wordsOf, word, wordsFrom, saysAt, after}
 use Rattle.aspif.specs.inner.Kept.{LineOn}
 use Rattle.aspif.proofs.Walking.{rule-says, rule-inside}
@@ -27,16 +27,20 @@ head-long empty = omega arith
 head-long (single a) = omega arith
 head-long (choice hs) = omega arith
 
--- and takes six words or more
-pub rule-long : {t : List ℕ} {p : ℕ} → LineOn t p → word t (p + 2) ≡ ruleKind → p + 6 ≤ after t p
+body-long : (b : Body) → 3 ≤ length (bodyWords b)
+body-long (normal ls) = omega arith
+body-long (weights k ps) = omega arith
+
+-- and takes eight words or more
+pub rule-long : {t : List ℕ} {p : ℕ} → LineOn t p → word t (p + 2) ≡ ruleKind → p + 8 ≤ after t p
 unfolding wordsFrom
 rule-long {t} {p} l e =
     let s = l .stand .are in
     let z : word t (p + 1) ≡ length (wordsOf (saysAt t (p + 2))) = cc in
     let h = ruleAt t (p + 2) .head in
-    let b = bodyWords (ruleAt t (p + 2) .body) in
+    let b = ruleAt t (p + 2) .body in
     let y = rw (rule-says t (p + 2) e) at z in
-    omega (arith, y, head-long h, length-append (headWords h) b)
+    omega (arith, y, head-long h, body-long b, length-append (headWords h) (bodyWords b))
 
 -- a word as the code reads it
 pub read-word : (t : List ℕ) (p : ℕ) → getD t p 0 ≡ word t p

@@ -26,7 +26,7 @@ pub record Stands (t : List ℕ) (n q : ℕ) : Type 0 where
 pub record Listing (t : List ℕ) (n : ℕ) (index : List ℕ) (m p left : ℕ) : Type 0 where
   pub ahead : Ahead t p left
   pub short : length t ≤ longestText
-  pub few : 6 * m ≤ p
+  pub few : 8 * m ≤ p
   pub long : length index ≡ indexPlaces
   pub each : (i : ℕ) → i < m → Stands t n (word index i)
   pub said : (r : Rule) → HasRule (linesFrom t p left) r → HasRule (linesOf t n) r

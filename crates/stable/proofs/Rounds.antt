@@ -12,7 +12,7 @@ use Rattle.basics.proofs.Bools.{or-left, or-right, or-cases, and-cases, and-bot
 use Rattle.faults.specs.inner.Places.{atomPlaces}
 use Rattle.aspif.specs.Statements.{Rule}
 use Rattle.aspif.specs.inner.Words.{word}
-use Rattle.stable.specs.Meaning.{Atoms, reductHead, kept, reduced, bodyTrue, Obeyed}
+use Rattle.stable.specs.Meaning.{Atoms, reductHead, Obeyed}
 use Rattle.stable.specs.inner.Index.{ruleAt, RuleOn, Readable}
 use Rattle.stable.specs.inner.Steps.{bodyHolds, markedCount, GrownMarks, AddedMarks, fires, ClosedBy, Round, Both, LeastBy}
 use Rattle.stable.proofs.Marks.{grown-refl, grown-trans, marked-le}
@@ -22,13 +22,11 @@ use Rattle.stable.proofs.Reduct.{holds-reduct, holds-mono}
 fires-in : (X F S : Atoms) (r : Rule) → Obeyed X S r → ((a : ℕ) → F a ≡ true → S a ≡ true) → (a : ℕ) → fires X F r a ≡ true → S a ≡ true
 fires-in X F S r o mono a e =
     let p = and-cases (bodyHolds X F (r .body)) (reductHead X (r .head) a) e in
-    let q = and-cases (kept X (r .body)) (bodyTrue S (reduced (r .body))) (sym (holds-reduct X S (r .body)) ∙ holds-mono X F S mono (r .body) (p .0)) in
-    o (q .0) (q .1) a (p .1)
+    o (holds-reduct X S (r .body) ∙ holds-mono X F S mono (r .body) (p .0)) a (p .1)
 
 -- and it obeys a rule of which what fires is in it
 obeys : (X S : Atoms) (r : Rule) → ((a : ℕ) → fires X S r a ≡ true → S a ≡ true) → Obeyed X S r
-obeys X S r f kp bo a hd =
-    f a (and-both (bodyHolds X S (r .body)) (reductHead X (r .head) a) (holds-reduct X S (r .body) ∙ and-both (kept X (r .body)) _ kp bo) hd)
+obeys X S r f bo a hd = f a (and-both (bodyHolds X S (r .body)) (reductHead X (r .head) a) (sym (holds-reduct X S (r .body)) ∙ bo) hd)
 
 -- after i rules of a round, with k new marks
 pub record Turn (X : Atoms) (t index : List ℕ) (m : ℕ) (f g : List ℕ) (k i : ℕ) : Type 0 where

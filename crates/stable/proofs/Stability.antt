@@ -8,10 +8,10 @@ use native.Mathlib.Decide.{decLt}
 use native.Mathlib.Omega.{arith}
 use borrow.Author.Tests.{eqb-true}
 use Rattle.basics.specs.Lists.{among}
-use Rattle.basics.proofs.Bools.{and-cases, and-both}
+use Rattle.basics.proofs.Bools.{and-cases}
 use Rattle.aspif.specs.Statements.{Head, empty, single, choice, Body, Line}
-use Rattle.stable.specs.Meaning.{Atoms, bodyTrue, brokenRule, Unbroken, unbroken, firstBroken, kept, reductHead, Closed, InLeast, Founded, SmallestUnfounded, Founding, founded, unfoundedAt, FoundedBy, Stable}
-use Rattle.stable.proofs.Reduct.{holds-self, holds-reduct, reduced-mono}
+use Rattle.stable.specs.Meaning.{Atoms, bodyTrue, brokenRule, Unbroken, unbroken, firstBroken, reductHead, Closed, InLeast, Founded, SmallestUnfounded, Founding, founded, unfoundedAt, FoundedBy, Stable}
+use Rattle.stable.proofs.Reduct.{holds-self, holds-reduct, reduct-mono}
 use Rattle.stable.proofs.FirstBroken.{unbroken-iff}
 
 -- a whole rule with a true body has its heads of the reduct in X
@@ -30,7 +30,7 @@ module _ (X ext : Atoms) (ls : List Line) where
   self-closed : Unbroken X ls → Closed X ext ls X
   self-closed u = record {
     facts = λ a e x. x;
-    rules = λ r s kp bo. head-in X (r .head) (r .body) (u r s) (sym (holds-self X (r .body)) ∙ holds-reduct X X (r .body) ∙ and-both (kept X (r .body)) _ kp bo);
+    rules = λ r s bo. head-in X (r .head) (r .body) (u r s) (sym (holds-self X (r .body)) ∙ sym (holds-reduct X X (r .body)) ∙ bo);
   }
 
   -- membership in every model is decided by a contradiction
@@ -62,7 +62,7 @@ module _ (X ext : Atoms) (ls : List Line) where
   pub least-model : (M : Atoms) → ((a : ℕ) → (M a ≡ true) ↔ InLeast X ext ls a) → Closed X ext ls M
   least-model M m = record {
     facts = λ a e x. m a .1 (λ S c. c .facts a e x);
-    rules = λ r s kp bo a hd. m a .1 (λ S c. c .rules r s kp (reduced-mono X M S (λ d e. m d .0 e S c) (r .body) kp bo) a hd);
+    rules = λ r s bo a hd. m a .1 (λ S c. c .rules r s (reduct-mono X M S (λ d e. m d .0 e S c) (r .body) bo) a hd);
   }
 
   -- and below every model

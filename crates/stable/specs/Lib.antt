@@ -1,3 +1,4 @@
 -- The definitions that the contracts cite.
 pub mod Meaning
+pub mod Normal
 pub mod inner

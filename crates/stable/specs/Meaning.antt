@@ -1,14 +1,16 @@
--- Believed: broken rules, unfounded atoms and stable candidates, over the lines of a plan: document 01, 'Meaning'. Assumes nothing.
-use Prim.Native.Nat.{ℕ, _<_}
+-- Believed: broken rules, unfounded atoms and stable candidates, over the lines of a plan: document 01, 'Meaning', and W1.
+-- What document 01 says of normal bodies alone is in Normal. Assumes nothing.
+use Prim.Native.Nat.{ℕ, _+_, _-_, _<_}
 use mathlib.Core.Path.{_≡_}
 use mathlib.Core.Logic.{_↔_}
-use mathlib.Core.Bool.{Bool, true, false, not, _&&_}
-use mathlib.Core.List.{List, [], _∷_}
+use mathlib.Core.Bool.{Bool, true, false, not, cond, _&&_}
+use mathlib.Core.List.{List, [], _∷_, map}
 use mathlib.Core.Option.{Option, some, none}
-use lib.Dec.{eqb}
+use lib.Dec.{eqb, leb}
+use lib.ListN.{length}
 use Rattle.basics.specs.Bools.{pick}
 use Rattle.basics.specs.Lists.{Some, among}
-use Rattle.aspif.specs.Statements.{Literal, positive, negated, Head, empty, single, choice, Body, normal, Line, Rule, ruleIn}
+use Rattle.aspif.specs.Statements.{Literal, positive, negated, Head, empty, single, choice, Premise, Body, normal, weights, Line, Rule, ruleIn}
 
 -- a set of atoms
 abbrev pub Atoms : Type 0
@@ -25,14 +27,28 @@ abbrev pub literalTrue : Atoms → Literal → Bool
 literalTrue X (positive a) = X a
 literalTrue X (negated a) = not (X a)
 
--- each of the literals is true
-abbrev pub allTrue : Atoms → List Literal → Bool
-allTrue X [] = true
-allTrue X (l ∷ ls) = literalTrue X l && allTrue X ls
+-- a literal of a normal body counts 1
+abbrev pub one : Literal → Premise
+one l = record { literal = l; weight = 1 }
 
--- a body is true if each of its literals is
+-- what may count for a body ..
+abbrev pub premises : Body → List Premise
+premises (normal ls) = map one ls
+premises (weights k ps) = ps
+
+-- .. and how much must: for a normal body, all
+abbrev pub lowerBound : Body → ℕ
+lowerBound (normal ls) = length ls
+lowerBound (weights k ps) = k
+
+-- the weights of the true literals; a literal written twice counts twice
+abbrev pub reached : Atoms → List Premise → ℕ
+reached X [] = 0
+reached X (p ∷ ps) = cond (literalTrue X (p .literal)) (p .weight) 0 + reached X ps
+
+-- a body is true when the weights of its true literals reach the bound
 abbrev pub bodyTrue : Atoms → Body → Bool
-bodyTrue X (normal ls) = allTrue X ls
+bodyTrue X b = leb (lowerBound b) (reached X (premises b))
 
 -- ---- broken rules
 
@@ -63,25 +79,28 @@ firstBroken X (x ∷ xs) = pick (broken X (ruleIn (x .says))) (brokenAt (x .plac
 
 -- ---- the reduct, with the external atoms ext
 
--- the negated atoms are all outside X
-abbrev pub negatedOutside : Atoms → List Literal → Bool
-negatedOutside X [] = true
-negatedOutside X (positive a ∷ ls) = negatedOutside X ls
-negatedOutside X (negated a ∷ ls) = not (X a) && negatedOutside X ls
+-- the weight of a negated atom outside X
+abbrev pub takenOff : Atoms → Literal → (weight : ℕ) → ℕ
+takenOff X (positive a) w = 0
+takenOff X (negated a) w = cond (X a) 0 w
 
--- it keeps rules whose negated atoms are all outside X ..
-abbrev pub kept : Atoms → Body → Bool
-kept X (normal ls) = negatedOutside X ls
+-- of all of them
+abbrev pub allTakenOff : Atoms → List Premise → ℕ
+allTakenOff X [] = 0
+allTakenOff X (p ∷ ps) = takenOff X (p .literal) (p .weight) + allTakenOff X ps
 
--- the literals that are not negated
-abbrev pub positives : List Literal → List Literal
+abbrev pub isPositive : Literal → Bool
+isPositive (positive a) = true
+isPositive (negated a) = false
+
+-- the positive literals
+abbrev pub positives : List Premise → List Premise
 positives [] = []
-positives (positive a ∷ ls) = positive a ∷ positives ls
-positives (negated a ∷ ls) = positives ls
+positives (p ∷ ps) = pick (isPositive (p .literal)) (p ∷ positives ps) (positives ps)
 
--- .. without those literals
-abbrev pub reduced : Body → Body
-reduced (normal ls) = normal (positives ls)
+-- the weights of negated atoms outside X are taken off the bound, never below 0, and the positive literals stay
+abbrev pub reduct : Atoms → Body → Body
+reduct X b = weights (lowerBound b - allTakenOff X (premises b)) (positives (premises b))
 
 -- a heads a rule of it; a choice rule gives one rule for each head atom that is in X
 abbrev pub reductHead : Atoms → Head → ℕ → Bool
@@ -89,9 +108,9 @@ reductHead X empty a = false
 reductHead X (single b) a = eqb a b
 reductHead X (choice hs) a = among a hs && X a
 
--- S obeys a rule of it: its heads are in S where it is kept and the rest of its body is true in S
+-- S obeys a rule of it: its heads are in S where the reduct of its body is true in S
 abbrev pub Obeyed : (X S : Atoms) → Rule → Type 0
-Obeyed X S r = kept X (r .body) ≡ true → bodyTrue S (reduced (r .body)) ≡ true → (a : ℕ) → reductHead X (r .head) a ≡ true → S a ≡ true
+Obeyed X S r = bodyTrue S (reduct X (r .body)) ≡ true → (a : ℕ) → reductHead X (r .head) a ≡ true → S a ≡ true
 
 -- S is a model of the reduct by X, in which an external atom in X counts as a fact
 pub record Closed (X ext : Atoms) (ls : List Line) (S : Atoms) : Type 0 where

@@ -2,33 +2,37 @@
 ghost use mathlib.Core.Path.{_≡_};
 ghost use mathlib.Core.Bool.{_&&_};
 ghost use mathlib.Core.Option.{some};
-ghost use Prim.Native.Nat.{ℕ, _+_, _≤_, _<_};
-ghost use lib.Dec.{eqb};
+ghost use Prim.Native.Nat.{ℕ, _+_, _/_, _≤_, _<_};
+ghost use lib.Dec.{eqb, leb};
 ghost use lib.ListN.{length};
 ghost use Rattle.basics.specs.Lists.{among};
 ghost use Rattle.basics.specs.inner.Bitmaps.{isMarked};
 ghost use Rattle.faults.specs.Limits.{longestText};
 ghost use Rattle.faults.specs.inner.Places.{atomPlaces};
 ghost use Rattle.aspif.specs.Statements.{choice, inHead};
-ghost use Rattle.aspif.specs.Grammar.{plainHead};
-ghost use Rattle.aspif.specs.inner.Words.{word, behind, listAt, literalsAt, linesOf};
+ghost use Rattle.aspif.specs.Grammar.{literalOf, plainHead};
+ghost use Rattle.aspif.specs.inner.Words.{word, behind, listAt, literalsAt, premisesAt, bodyAt, linesOf};
 ghost use Rattle.aspif.specs.inner.Kept.{SmallHead, Ahead};
 ghost use Rattle.stable.specs.Meaning.{firstBroken, broken, FoundedBy};
 ghost use Rattle.stable.specs.inner.Values.{asBroken, asUnfounded};
-ghost use Rattle.stable.specs.inner.Index.{ruleAt, LiteralsOn, RuleOn, indexPlaces, Readable, Indexed};
-ghost use Rattle.stable.specs.inner.Steps.{allHold, fires, MarkedOne, AddedMarks, Round, Both, LeastBy, Sought};
+ghost use Rattle.stable.specs.inner.Index.{ruleAt, LiteralsOn, PremisesOn, BodyOn, RuleOn, indexPlaces, Readable, Indexed};
+ghost use Rattle.stable.specs.inner.Steps.{literalHolds, allHold, reachedBy, bodyHolds, fires, MarkedOne, AddedMarks, Round, Both, LeastBy, Sought};
+use aspif::kinds::NORMAL;
 use aspif::kinds::RULE;
 use aspif::walk::after_at;
 use aspif::walk::atom_at;
 use aspif::walk::word_at;
 use aspif::words::HEAD_KIND;
 use aspif::words::HEADS;
+use aspif::words::LOWER_BOUND;
+use aspif::words::PREMISES;
 use aspif::words::SAYS;
 use faults::ATOM_PLACES;
 use faults::AtomNo;
+use fields::WEIGHT_UNIT;
 
-// The longest index of rules: a rule takes six words of the tape or more.
-const INDEX_PLACES: usize = 10000;
+// The longest index of rules: a rule takes eight words of the tape or more.
+const INDEX_PLACES: usize = 7500;
 
 // Which rule is broken first, by the place of its line.
 pub enum Broken {
@@ -42,39 +46,80 @@ pub enum Unfounded {
     Atom(AtomNo),
 }
 
-// The count at a place of the tape, and 0 past its end.
-fn count_at(tape: &[u32], p: usize) -> usize
-    ensures { λ r. ⌜ r ≡ word (now (tape .entry)) p ⌝ }
+// Whether the literal of a word is true, a negated atom being looked up in x and another in s.
+fn literal_true(w: u32, x: &[u8], s: &[u8]) -> bool
+    requires { ⌜ w / 2 < atomPlaces ⌝ }
+    requires { ⌜ length (now x) ≡ atomPlaces ⌝ }
+    requires { ⌜ length (now s) ≡ atomPlaces ⌝ }
+    ensures { λ r. ⌜ r ≡ literalHolds (isMarked (now (x .entry))) (isMarked (now (s .entry))) (literalOf w) ⌝ }
 {
-    let w = word_at(tape, p, 0);
-    w as usize
+    let a = (w / 2) as usize;
+    if w % 2 == 0 {
+        return s[a] == 1;
+    }
+    x[a] != 1
 }
 
-// Whether each literal of the list at `at` is true, negated atoms being looked up in x and the others in s.
-fn body_true(tape: &[u32], at: usize, x: &[u8], s: &[u8]) -> bool
+// Whether each literal of the list at `at` is true, by x and s.
+fn all_true(tape: &[u32], at: usize, x: &[u8], s: &[u8]) -> bool
     requires { ⌜ LiteralsOn (now tape) at ⌝ }
     requires { ⌜ length (now x) ≡ atomPlaces ⌝ }
     requires { ⌜ length (now s) ≡ atomPlaces ⌝ }
     ensures { λ r. ⌜ r ≡ allHold (isMarked (now (x .entry))) (isMarked (now (s .entry))) (literalsAt (now (tape .entry)) at) ⌝ }
 {
-    let mut left = count_at(tape, at);
+    let mut left = tape[at] as usize;
     let mut p = at + 1;
     while left != 0 {
-        let w = tape[p] as usize;
-        let a = w / 2;
-        if w % 2 == 0 {
-            if s[a] != 1 {
-                return false;
-            }
-        } else {
-            if x[a] == 1 {
-                return false;
-            }
+        if !literal_true(tape[p], x, s) {
+            return false;
         }
         p += 1;
         left -= 1;
     }
     true
+}
+
+// Whether the weights of the true literals of the list at `at` reach the bound, by x and s.
+fn bound_reached(tape: &[u32], at: usize, bound: u32, x: &[u8], s: &[u8]) -> bool
+    requires { ⌜ PremisesOn (now tape) at ⌝ }
+    requires { ⌜ length (now x) ≡ atomPlaces ⌝ }
+    requires { ⌜ length (now s) ≡ atomPlaces ⌝ }
+    ensures { λ r. ⌜ r ≡ leb bound (reachedBy (isMarked (now (x .entry))) (isMarked (now (s .entry))) (premisesAt (now (tape .entry)) at)) ⌝ }
+{
+    if bound == 0 {
+        return true;
+    }
+    let mut due = bound;
+    let mut left = tape[at] as usize;
+    let mut p = at + 1;
+    while left != 0 {
+        let w = tape[p];
+        if literal_true(w % WEIGHT_UNIT, x, s) {
+            let weight = w / WEIGHT_UNIT;
+            if due <= weight {
+                return true;
+            }
+            due -= weight;
+        }
+        p += 1;
+        left -= 1;
+    }
+    false
+}
+
+// Whether the body at `at` is true, negated atoms being looked up in x and the others in s.
+fn body_true(tape: &[u32], at: usize, x: &[u8], s: &[u8]) -> bool
+    requires { ⌜ BodyOn (now tape) at ⌝ }
+    requires { ⌜ length (now x) ≡ atomPlaces ⌝ }
+    requires { ⌜ length (now s) ≡ atomPlaces ⌝ }
+    ensures { λ r. ⌜ r ≡ bodyHolds (isMarked (now (x .entry))) (isMarked (now (s .entry))) (bodyAt (now (tape .entry)) at) ⌝ }
+{
+    let list = at + PREMISES;
+    if tape[at] == NORMAL {
+        return all_true(tape, list, x, s);
+    }
+    let bound = word_at(tape, at, LOWER_BOUND);
+    bound_reached(tape, list, bound, x, s)
 }
 
 // Whether the rule at q is broken in x.
@@ -87,7 +132,7 @@ fn is_broken(tape: &[u32], q: usize, x: &[u8]) -> bool
         return false;
     }
     let h = q + HEADS;
-    let n = count_at(tape, h);
+    let n = tape[h] as usize;
     if n != 0 {
         let a = atom_at(tape, h, 1);
         let v = a.0 as usize;
@@ -141,8 +186,7 @@ fn add_single(tape: &[u32], at: usize, found: &mut [u8]) -> usize
     requires { ⌜ length (now found) ≡ atomPlaces ⌝ }
     ensures { λ r. ⌜ AddedMarks (λ (a : ℕ). inHead a (plainHead (listAt (now (tape .entry)) at))) (now (found .entry)) (now (found .exit)) r ⌝ }
 {
-    let n = count_at(tape, at);
-    if n == 0 {
+    if tape[at] == 0 {
         return 0;
     }
     let w = tape[at + 1];
@@ -157,7 +201,7 @@ fn add_chosen(tape: &[u32], at: usize, x: &[u8], found: &mut [u8]) -> usize
     requires { ⌜ length (now found) ≡ atomPlaces ⌝ }
     ensures { λ r. ⌜ AddedMarks (λ (a : ℕ). among a (listAt (now (tape .entry)) at) && isMarked (now (x .entry)) a) (now (found .entry)) (now (found .exit)) r ⌝ }
 {
-    let mut left = count_at(tape, at);
+    let mut left = tape[at] as usize;
     let mut p = at + 1;
     let mut added = 0;
     while left != 0 {
@@ -181,7 +225,7 @@ fn fire(tape: &[u32], q: usize, x: &[u8], found: &mut [u8]) -> usize
     ensures { λ r. ⌜ AddedMarks (fires (isMarked (now (x .entry))) (isMarked (now (found .entry))) (ruleAt (now (tape .entry)) q)) (now (found .entry)) (now (found .exit)) r ⌝ }
 {
     let h = q + HEADS;
-    let n = count_at(tape, h);
+    let n = tape[h] as usize;
     let b = h + 1 + n;
     if !body_true(tape, b, x, found) {
         return 0;

@@ -17,7 +17,7 @@ use Rattle.basics.proofs.Bitmaps.{among-append}
 use Rattle.basics.proofs.Lists.{zeros}
 use Rattle.aspif.specs.Statements.{Head, choice, headAtoms, ruleIn}
 use Rattle.aspif.specs.Grammar.{headOf, plainHead}
-use Rattle.aspif.specs.inner.Words.{ruleKind, literalWords, headWords, word, wordsFrom, listAt, behind, literalsAt, saysAt, after, linesFrom, linesOf}
+use Rattle.aspif.specs.inner.Words.{ruleKind, headWords, bodyWords, word, wordsFrom, listAt, behind, bodyAt, saysAt, after, linesFrom, linesOf}
 use Rattle.aspif.specs.inner.Kept.{Stand, LineOn, Ahead}
 use Rattle.aspif.proofs.Coding.{kindOf, head-words}
 use Rattle.aspif.proofs.Walking.{first-word, words-length, ahead-next, lines-next, rule-says}
@@ -137,7 +137,7 @@ line-heads t p k n l l′ on ek z en f =
     let x : p + 2 + 2 ≡ p + 4 = omega arith in
     let y : p + 2 + 2 + 1 ≡ p + 2 + 3 = omega arith in
     let hs = listAt t (p + 2 + 2) in
-    let c : length hs ≡ length (headAtoms (headOf (word t (p + 2 + 1)) hs)) = words-length t _ _ ∙ ap (word t) x ∙ head-count t (literalWords (literalsAt t (behind t (p + 2 + 2)))) p _ _ (headOf (word t (p + 2 + 1)) hs) (rw says at (on .stand)) in
+    let c : length hs ≡ length (headAtoms (headOf (word t (p + 2 + 1)) hs)) = words-length t _ _ ∙ ap (word t) x ∙ head-count t (bodyWords (bodyAt t (behind t (p + 2 + 2)))) p _ _ (headOf (word t (p + 2 + 1)) hs) (rw says at (on .stand)) in
     record { each = λ a h. f .each a h ∙ rw (says, heads-all (word t (p + 2 + 1)) hs c, y, en) }
 
 -- ---- the heads of all lines

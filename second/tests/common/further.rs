@@ -1,5 +1,5 @@
 //! Plans with further time rules, and what demand 3 says of them.
-use super::{in_force, negative_cycle, refused, Judged};
+use super::{in_force, literals_of, negative_cycle, refused, Judged};
 use second::judging::read_plan;
 use second::random::Random;
 use second::{check_cycle, generating, read_candidate, Literal, Refusal, Statement, Verdict};
@@ -30,7 +30,7 @@ fn atoms_of(literals: &[Literal]) -> Vec<u32> {
 // The terms, elements and atoms that a statement has anywhere.
 fn numbers_of(statement: &Statement) -> [Vec<u32>; 3] {
     match statement {
-        Statement::Rule { head, body, .. } => [vec![], vec![], [head.clone(), atoms_of(body)].concat()],
+        Statement::Rule { head, body, .. } => [vec![], vec![], [head.clone(), atoms_of(&literals_of(body))].concat()],
         Statement::Output { condition, .. } => [vec![], vec![], atoms_of(condition)],
         Statement::Number { term, .. } | Statement::Symbol { term, .. } => [vec![*term], vec![], vec![]],
         Statement::Compound { term, arguments, base } => {

@@ -1,7 +1,8 @@
 #![allow(dead_code)]
 pub mod further;
+pub mod writing;
 use second::judging::{CYCLE_PLACES, ROOM_BYTES};
-use second::{Difference, Refusal, Verdict};
+use second::{Body, Difference, Literal, Refusal, Verdict};
 
 pub const P: &str = "asp 1 0 0
 1 1 1 1 0 0
@@ -76,6 +77,79 @@ pub fn verdict(text: impl AsRef<[u8]>, cand: impl AsRef<[u8]>) -> Verdict {
 // The header and `0` line around some lines.
 pub fn wrap(lines: &str) -> String {
     format!("asp 1 0 0\n{lines}0\n")
+}
+
+/// Lines with weights, a candidate without its line end, and the refusal.
+type Trap = (&'static str, &'static str, Option<(u32, u32)>);
+
+/// What may go wrong with weights.
+const TRAPS: &[Trap] = &[
+    // At least two of five links.
+    ("1 1 5 1 2 3 4 5 0 0\n1 0 1 6 1 2 5 1 1 2 1 3 1 4 1 5 1\n", "1 2 6", None),
+    ("1 1 5 1 2 3 4 5 0 0\n1 0 1 6 1 2 5 1 1 2 1 3 1 4 1 5 1\n", "1 2", Some((8, 30))),
+    ("1 1 5 1 2 3 4 5 0 0\n1 0 1 6 1 2 5 1 1 2 1 3 1 4 1 5 1\n", "1 6", Some((9, 6))),
+    // A literal twice.
+    ("1 1 1 1 0 0\n1 0 1 2 1 2 2 1 1 1 1\n", "1 2", None),
+    ("1 1 1 1 0 0\n1 0 1 2 1 2 2 1 1 1 1\n", "1", Some((8, 22))),
+    // Weights taken off the bound: all of it, all but one, more than it.
+    ("1 0 1 1 1 5 2 1 5 -2 5\n", "1", None),
+    ("1 0 1 1 1 6 2 1 5 -2 5\n", "1", Some((9, 1))),
+    ("1 0 1 1 1 5 2 1 1 -2 9\n", "1", None),
+    // The bound 0, and a loop.
+    ("1 0 1 1 1 0 0\n", "1", None),
+    ("1 0 1 1 1 0 0\n", "", Some((8, 10))),
+    ("1 0 0 1 0 0\n", "", Some((8, 10))),
+    ("1 0 1 1 1 1 2 2 1 3 1\n1 0 1 2 0 1 1\n", "1 2", Some((9, 1))),
+    // Bounds, weights, and what else is wrong in the text.
+    ("1 0 1 1 1 1000000001 0\n", "", Some((5, 20))),
+    ("1 0 1 1 1 99999999999999999999 0\n", "", Some((5, 20))),
+    ("1 0 1 1 1 -1 0\n", "", Some((3, 20))),
+    ("1 0 1 1 1 1 1 2 0\n", "", Some((5, 26))),
+    ("1 0 1 1 1 1 1 2 100001\n", "", Some((5, 26))),
+    ("1 0 1 1 1 1 1 2 -1\n", "", Some((3, 26))),
+    ("1 0 1 1 1 1 1 2\n", "", Some((3, 25))),
+    ("1 0 1 1 1 1 1 0 0\n", "", Some((5, 24))),
+    ("1 0 1 1 1 1 4097\n", "", Some((5, 22))),
+    ("1 0 1 1 2 0\n", "", Some((3, 18))),
+    ("1 0 1 1 1\n", "", Some((3, 19))),
+];
+
+// Asks of a program that judges what it says to each trap.
+pub fn check_traps(judge: impl Fn(&str, &str) -> Verdict) {
+    for (lines, cand, wanted) in TRAPS {
+        let refused = match judge(&wrap(lines), &format!("{cand}\n")) {
+            Verdict::Accepted(_) => None,
+            Verdict::Refused(r) => Some((r.number, r.place)),
+        };
+        assert_eq!(refused, *wanted, "{lines}{cand}");
+    }
+}
+
+/// Bounds, and whether the heaviest body reaches them; the largest bound is reached by none.
+const HEAVIEST: [(u32, bool); 6] =
+    [(0, true), (1, true), (409_599_999, true), (409_600_000, true), (409_600_001, false), (1_000_000_000, false)];
+
+// Asks of a program that judges what it says to the heaviest body.
+pub fn check_heaviest(judge: impl Fn(&str, &str) -> Verdict) {
+    for (bound, reached) in HEAVIEST {
+        let text = heaviest(bound);
+        let unlike = if reached { [Verdict::Accepted(24), refused(8, 22)] } else { [refused(9, 1), Verdict::Accepted(20)] };
+        assert_eq!(["1 2\n", "2\n"].map(|cand| judge(&text, cand)), unlike, "{bound}");
+        assert_eq!(judge(&text, "\n"), if bound == 0 { refused(8, 22) } else { Verdict::Accepted(16) }, "{bound}");
+    }
+}
+
+// Atom 2 by choice, and atom 1 by the heaviest body: atom 2 as often as a count allows, each with the largest weight.
+fn heaviest(bound: u32) -> String {
+    wrap(&format!("1 1 1 2 0 0\n1 0 1 1 1 {bound} 4096{}\n", " 2 100000".repeat(4096)))
+}
+
+// The literals of a body.
+pub fn literals_of(body: &Body) -> Vec<Literal> {
+    match body {
+        Body::Normal(literals) => literals.clone(),
+        Body::Weights { literals, .. } => literals.iter().map(|w| w.literal).collect(),
+    }
 }
 
 // The names and the differences in force.

@@ -5,12 +5,12 @@ use mathlib.Core.List.{List}
 use lib.IntN.{ℤ, pos, negsuc}
 use lib.ListN.{length}
 use Rattle.basics.specs.Lists.{All}
-use Rattle.faults.specs.Limits.{lastTerm, lastElement, mostCount, largestNumber}
-use Rattle.fields.specs.inner.Kept.{IsAtom}
-use Rattle.aspif.specs.Statements.{Literal, Head, empty, single, choice, Body, normal, Term, num, str, comp, Element, elem, Guard, unguarded, guard, Theory, defines, collects, states, Statement, rule, output, theory, comment, Line, literalAtoms}
+use Rattle.faults.specs.Limits.{lastTerm, lastElement, mostCount, largestNumber, largestBound}
+use Rattle.fields.specs.inner.Kept.{IsAtom, IsWeight}
+use Rattle.aspif.specs.Statements.{Literal, Head, empty, single, choice, Premise, Body, normal, weights, Term, num, str, comp, Element, elem, Guard, unguarded, guard, Theory, defines, collects, states, Statement, rule, output, theory, comment, Line, literalAtoms, premiseAtom}
 use Rattle.aspif.specs.inner.Words.{words, wordsFrom, saysAt, lineAt, after}
 
--- ---- bounds: document 01, 'Numbers that bound it'
+-- ---- bounds: document 01, 'Numbers that bound it', and W1
 
 abbrev pub IsTerm : ℕ → Type 0
 IsTerm u = u ≤ lastTerm
@@ -38,8 +38,12 @@ SmallHead empty = Unit {0}
 SmallHead (single a) = IsAtom a
 SmallHead (choice hs) = Counted IsAtom hs
 
+abbrev pub SmallPremise : Premise → Type 0
+SmallPremise p = IsAtom (premiseAtom p) × IsWeight (p .weight)
+
 abbrev pub SmallBody : Body → Type 0
 SmallBody (normal ls) = SmallLiterals ls
+SmallBody (weights k ps) = (k ≤ largestBound) × Counted SmallPremise ps
 
 abbrev pub SmallElement : Element → Type 0
 SmallElement (elem us c) = Counted IsTerm us × SmallLiterals c

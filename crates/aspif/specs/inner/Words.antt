@@ -1,18 +1,20 @@
 -- Inner: the tape. The words of each line, and the line that words say. A line's words are its place, the count of the words
 -- behind these two, and what it says, in the order of its fields behind its kind:
---   1 choice n heads.. m literals..     4 n bytes.. m literals..       10 n bytes..
+--   1 choice n heads.. body..           4 n bytes.. m literals..       10 n bytes..
 --   90 u w                              91 u n bytes..                 92 u t n terms..
 --   94 v n terms.. m literals..         95 a p n elements..            96 a p n elements.. g u
--- A literal's word is 2 a, or 2 a + 1 if negated; w and t are 2 v, or 2 v + 1 for - v. Assumes nothing.
+-- A body is 0 0 m literals.. or 1 bound m premises.. A literal's word is 2 a, or 2 a + 1 if negated; w and t are 2 v, or 2 v + 1 for - v;
+-- a premise's word is its literal's, and a unit for each 1 of its weight. Assumes nothing.
 use Prim.Native.Nat.{ℕ, zero, suc, _+_, _*_}
 use mathlib.Core.List.{List, [], _∷_, _++_, map}
 use lib.Dec.{eqb}
 use lib.IntN.{ℤ, pos, negsuc}
 use lib.ListN.{getD}
 use Rattle.basics.specs.Bools.{pick}
+use Rattle.fields.specs.Fields.{weightUnit}
 use Rattle.fields.specs.inner.Tape.{listed}
-use Rattle.aspif.specs.Statements.{Literal, positive, negated, Head, empty, single, choice, Body, normal, num, str, comp, elem, unguarded, guard, Theory, defines, collects, states, Statement, rule, output, theory, comment, Line}
-use Rattle.aspif.specs.Grammar.{Front, literalOf, integerOf, headOf}
+use Rattle.aspif.specs.Statements.{Literal, positive, negated, Head, empty, single, choice, Premise, Body, normal, weights, num, str, comp, elem, unguarded, guard, Theory, defines, collects, states, Statement, rule, output, theory, comment, Line}
+use Rattle.aspif.specs.Grammar.{Front, literalOf, integerOf, premiseOf, headOf}
 
 -- ---- the kinds
 
@@ -43,6 +45,13 @@ atomKind = 95
 abbrev pub guardedKind : ℕ
 guardedKind = 96
 
+-- the kinds of bodies
+abbrev pub normalKind : ℕ
+normalKind = 0
+
+abbrev pub weightKind : ℕ
+weightKind = 1
+
 -- ---- the words of a line
 
 abbrev pub literalWord : Literal → ℕ
@@ -56,13 +65,17 @@ integerWord (negsuc n) = 2 * suc n + 1
 abbrev pub literalWords : List Literal → List ℕ
 literalWords ls = listed (map literalWord ls)
 
+abbrev pub premiseWord : Premise → ℕ
+premiseWord p = weightUnit * p .weight + literalWord (p .literal)
+
 abbrev pub headWords : Head → List ℕ
 headWords empty = 0 ∷ listed []
 headWords (single a) = 0 ∷ listed (a ∷ [])
 headWords (choice hs) = 1 ∷ listed hs
 
 abbrev pub bodyWords : Body → List ℕ
-bodyWords (normal ls) = literalWords ls
+bodyWords (normal ls) = normalKind ∷ 0 ∷ literalWords ls
+bodyWords (weights k ps) = weightKind ∷ k ∷ listed (map premiseWord ps)
 
 abbrev pub frontWords : (kind : ℕ) → Front → List ℕ
 frontWords kind f = kind ∷ f .atom ∷ f .name ∷ listed (f .elements)
@@ -109,10 +122,17 @@ behind t p = p + 1 + word t p
 abbrev pub literalsAt : List ℕ → ℕ → List Literal
 literalsAt t p = map literalOf (listAt t p)
 
+abbrev pub premisesAt : List ℕ → ℕ → List Premise
+premisesAt t p = map premiseOf (listAt t p)
+
+-- the body whose kind stands at p
+abbrev pub bodyAt : List ℕ → ℕ → Body
+bodyAt t p = pick (eqb (word t p) normalKind) (normal (literalsAt t (p + 2))) (weights (word t (p + 1)) (premisesAt t (p + 2)))
+
 -- what the words from q on say, the first of which is their kind
 unfoldable pub saysAt : List ℕ → ℕ → Statement
 saysAt t q =
-    pick (eqb (word t q) ruleKind) (rule (headOf (word t (q + 1)) (listAt t (q + 2))) (normal (literalsAt t (behind t (q + 2)))))
+    pick (eqb (word t q) ruleKind) (rule (headOf (word t (q + 1)) (listAt t (q + 2))) (bodyAt t (behind t (q + 2))))
     (pick (eqb (word t q) outputKind) (output (listAt t (q + 1)) (literalsAt t (behind t (q + 1))))
     (pick (eqb (word t q) numberKind) (theory (defines (word t (q + 1)) (num (integerOf (word t (q + 2))))))
     (pick (eqb (word t q) stringKind) (theory (defines (word t (q + 1)) (str (listAt t (q + 2)))))

@@ -3,6 +3,7 @@ use mathlib.Core.Logic.{⊎-elim}
 use native.Mathlib.Omega.{arith}
 use borrow.Author.Needs.{needs}
 use Rattle.stable.proofs.Chosen.{Walk, start, here, atom, more, take, leave, end}
+use Rattle.stable.proofs.Lines.{read-word}
 use Rattle.stable.proofs.add_chosen.Statement.{statement}
 use Rattle.stable.proofs.add_chosen.Tie as tie
 
@@ -12,14 +13,20 @@ Inv-loop tape at x found₀ left₀ p₀ added₀ found left p added = Walk x ta
 abbrev μ-loop : tie.MeasureT-loop
 μ-loop tape at x found₀ left₀ p₀ added₀ found left p added = left
 
-count-at-requires : tie.Need-count-at-requires Inv-loop μ-loop
-count-at-requires c κs = search needs
+mul-left : tie.Need-mul-left Inv-loop μ-loop
+mul-left c = omega (arith, c .before .before .before .pre .0)
+
+shared-slice-read-left : tie.Need-shared-slice-read-left Inv-loop μ-loop
+shared-slice-read-left c = omega (arith, c .before .before .before .before .pre .0)
+
+cast-left : tie.Need-cast-left Inv-loop μ-loop
+cast-left c = omega (arith, c .shared-slice-known3 .given (c .before .before .before .before .args .at))
 
 add-p : tie.Need-add-p Inv-loop μ-loop
 add-p c = omega (arith, c .before .before .before .before .pre .0)
 
 loop-holds : tie.Need-loop-holds Inv-loop μ-loop
-loop-holds c = start (c .before .before .before .before .pre .0) (c .before .before .before .before .pre .1 .0) (c .before .before .before .before .pre .1 .1 .1) (c .count-at .ensures)
+loop-holds c = start (c .before .before .before .before .pre .0) (c .before .before .before .before .pre .1 .0) (c .before .before .before .before .pre .1 .1 .1) (read-word _ _)
 
 mul-w : tie.Need-mul-w Inv-loop μ-loop
 mul-w c = omega (arith, here (c .before .loop .inv) (c .loop-test .taken))
@@ -28,7 +35,7 @@ shared-slice-read-w : tie.Need-shared-slice-read-w Inv-loop μ-loop
 shared-slice-read-w c = here (c .before .before .loop .inv) (c .before .loop-test .taken)
 
 cast-a : tie.Need-cast-a Inv-loop μ-loop
-cast-a c = omega (arith, c .shared-slice-known3 .given (c .before .before .loop .p))
+cast-a c = omega (arith, c .shared-slice-known4 .given (c .before .before .loop .p))
 
 shared-slice-read-if1 : tie.Need-shared-slice-read-if1 Inv-loop μ-loop
 shared-slice-read-if1 c = omega (arith, atom (c .before .before .before .loop .inv) (c .before .before .loop-test .taken), c .before .before .before .before .before .before .before .before .pre .1 .1 .0)
@@ -67,7 +74,9 @@ add-chosen-spec =
     (tie.spec
     Inv-loop
     μ-loop
-    count-at-requires
+    mul-left
+    shared-slice-read-left
+    cast-left
     add-p
     loop-holds
     mul-w

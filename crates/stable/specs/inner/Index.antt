@@ -3,29 +3,39 @@ use Prim.Native.Nat.{ℕ, _+_, _≤_, _<_}
 use mathlib.Core.Path.{_≡_}
 use mathlib.Core.List.{List}
 use lib.ListN.{length}
-use Rattle.aspif.specs.Statements.{normal, Rule}
+use Rattle.aspif.specs.Statements.{Rule}
 use Rattle.aspif.specs.Grammar.{headOf}
-use Rattle.aspif.specs.inner.Words.{word, listAt, literalsAt, behind, linesOf}
-use Rattle.aspif.specs.inner.Kept.{SmallHead, SmallLiterals}
+use Rattle.aspif.specs.inner.Words.{word, listAt, literalsAt, premisesAt, bodyAt, behind, linesOf}
+use Rattle.aspif.specs.inner.Kept.{Counted, SmallHead, SmallLiterals, SmallPremise, SmallBody}
 use Rattle.stable.specs.Meaning.{HasRule}
 
 -- the rule whose kind stands at q
 abbrev pub ruleAt : List ℕ → ℕ → Rule
-ruleAt t q = record { head = headOf (word t (q + 1)) (listAt t (q + 2)); body = normal (literalsAt t (behind t (q + 2))) }
+ruleAt t q = record { head = headOf (word t (q + 1)) (listAt t (q + 2)); body = bodyAt t (behind t (q + 2)) }
 
 -- the literals of the list whose count stands at p can be looked up
 pub record LiteralsOn (t : List ℕ) (p : ℕ) : Type 0 where
   pub inside : behind t p ≤ length t
   pub small : SmallLiterals (literalsAt t p)
 
+-- the same of literals with weights
+pub record PremisesOn (t : List ℕ) (p : ℕ) : Type 0 where
+  pub inside : behind t p ≤ length t
+  pub small : Counted SmallPremise (premisesAt t p)
+
+-- the body whose kind stands at p can be read
+pub record BodyOn (t : List ℕ) (p : ℕ) : Type 0 where
+  pub inside : behind t (p + 2) ≤ length t
+  pub small : SmallBody (bodyAt t p)
+
 -- the rule whose kind stands at q can be read
 pub record RuleOn (t : List ℕ) (q : ℕ) : Type 0 where
   pub head : SmallHead (ruleAt t q .head)
-  pub body : LiteralsOn t (behind t (q + 2))
+  pub body : BodyOn t (behind t (q + 2))
 
--- the longest index: a rule takes six words of the tape or more
+-- the longest index: a rule takes eight words of the tape or more
 abbrev pub indexPlaces : ℕ
-indexPlaces = 10000
+indexPlaces = 7500
 
 -- the first m rules of an index can be read
 pub record Readable (t index : List ℕ) (m : ℕ) : Type 0 where

@@ -3,12 +3,12 @@ use Prim.Native.Nat.{ℕ, _+_, _<_}
 use mathlib.Core.Path.{_≡_}
 use mathlib.Core.Bool.{Bool, true, false, not, cond, _&&_, _||_}
 use mathlib.Core.List.{List, [], _∷_}
-use lib.Dec.{eqb}
+use lib.Dec.{eqb, leb}
 use lib.ListN.{set}
 use Rattle.basics.specs.inner.Bitmaps.{isMarked}
-use Rattle.aspif.specs.Statements.{Literal, positive, negated, Body, normal, Rule}
+use Rattle.aspif.specs.Statements.{Literal, positive, negated, Premise, Body, Rule}
 use Rattle.aspif.specs.inner.Words.{word}
-use Rattle.stable.specs.Meaning.{Atoms, reductHead, Obeyed, Founding, founded, unfoundedAt}
+use Rattle.stable.specs.Meaning.{Atoms, premises, lowerBound, reductHead, Obeyed, Founding, founded, unfoundedAt}
 use Rattle.stable.specs.inner.Index.{ruleAt}
 
 -- truth of a literal in the reduct: a negated atom is looked up in X, another in S
@@ -21,9 +21,14 @@ abbrev pub allHold : Atoms → Atoms → List Literal → Bool
 allHold X S [] = true
 allHold X S (l ∷ ls) = literalHolds X S l && allHold X S ls
 
+-- the weights of the literals that are
+abbrev pub reachedBy : Atoms → Atoms → List Premise → ℕ
+reachedBy X S [] = 0
+reachedBy X S (p ∷ ps) = cond (literalHolds X S (p .literal)) (p .weight) 0 + reachedBy X S ps
+
 -- of a body, in one walk
 abbrev pub bodyHolds : Atoms → Atoms → Body → Bool
-bodyHolds X S (normal ls) = allHold X S ls
+bodyHolds X S b = leb (lowerBound b) (reachedBy X S (premises b))
 
 -- how many atoms are marked
 abbrev pub markedCount : List ℕ → ℕ

@@ -12,6 +12,7 @@ use Rattle.fields.proofs.Readers.{by-grammar, reads-ends, lineEnd-reads, natura
 use Rattle.fields.proofs.Taping.{wrote, stopped}
 use Rattle.aspif.specs.inner.Words.{wordsOf}
 use Rattle.aspif.specs.inner.Values.{taped}
+use Rattle.aspif.proofs.Kept.{Bytes}
 use Rattle.aspif.proofs.Turns.{turn-none, turn-stop, last-stop, last-goes, line-stop, end-stop, line-goes, line-words, Reached, reach-start, reach-fault, reach-more, end-taped, end-lines, end-walks}
 use Rattle.aspif.proofs.lines.lines.Statement.{statement}
 use Rattle.aspif.proofs.lines.lines.Tie as tie
@@ -86,7 +87,8 @@ returns-3 c =
     let l = last-goes _ _ _ _ _ _ (c .before .before .before .before .before .before .before .before .loop-test .taken) e (c .before .before .before .if1 .taken) g in
     let i = c .before .before .before .before .before .before .before .before .before .loop .inv .0 in
     let b : c .before .before .before .before .before .before .before .before .before .loop .o ≤ length (start .args .tape .now) = omega (arith, i .room) in
-    (end-taped _ _ _ _ _ _ _ _ i _ l b, (end-lines _ _ _ _ _ _ _ _ i _ l b, end-walks _ _ _ _ _ _ _ _ i _ l b (λ k. omega (arith, c .before .before .before .before .before .before .before .before .before .before .before .shared-slice-known .given k))))
+    let y : Bytes (start .args .s .now) = λ k. omega (arith, c .before .before .before .before .before .before .before .before .before .before .before .shared-slice-known .given k) in
+    (end-taped _ _ _ _ _ _ _ _ i _ l b y, (end-lines _ _ _ _ _ _ _ _ i _ l b y, end-walks _ _ _ _ _ _ _ _ i _ l b y))
 
 add-from : tie.Need-add-from Inv-loop μ-loop
 add-from c =
