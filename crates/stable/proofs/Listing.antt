@@ -1,21 +1,20 @@
--- A walk that writes the place of each rule: a rule of the lines is written or is ahead. A rule has six words or more. Assumes nothing.
+-- A walk that writes the place of each rule: a rule of the lines is written or is ahead. A rule has eight words or more. Assumes nothing.
 use Prim.Native.Nat.{ℕ, _+_, _-_, _*_, _≤_, _<_}
 use mathlib.Core.List.{List}
 use mathlib.Core.Logic.{_⊎_, inl, inr, ⊎-elim}
 use mathlib.Core.Option.{some}
-use mathlib.Core.Path.{_≡_, ap, _∙_, sym}
+use mathlib.Core.Path.{_≡_, refl, ap, _∙_, sym}
 use native.Mathlib.Omega.{arith}
 use borrow.Author.Count.{below-more}
 use lib.ListN.{length, set, length-set}
 use lib.Seq.{getD-set-same, getD-set-other}
-use Rattle.faults.specs.Limits.{longestText}
 use Rattle.aspif.specs.Statements.{Rule, ruleIn}
 use Rattle.aspif.specs.inner.Words.{ruleKind, word, after, saysAt, linesFrom, linesOf}
 use Rattle.aspif.specs.inner.Kept.{LineOn, Ahead}
 use Rattle.aspif.proofs.Walking.{ahead-starts, ahead-next, lines-next, after-inside}
 use Rattle.aspif.proofs.Decoding.{not-rule}
 use Rattle.stable.specs.Meaning.{HasRule}
-use Rattle.stable.specs.inner.Index.{ruleAt, RuleOn, indexPlaces, InIndex, Indexed}
+use Rattle.stable.specs.inner.Index.{ruleAt, RuleOn, ruleWords, InIndex, Indexed}
 use Rattle.stable.proofs.Lines.{rule-in, rule-on, rule-long}
 
 -- a rule of the lines stands at q
@@ -23,31 +22,31 @@ pub record Stands (t : List ℕ) (n q : ℕ) : Type 0 where
   pub on : RuleOn t q
   pub said : HasRule (linesOf t n) (ruleAt t q)
 
-pub record Listing (t : List ℕ) (n : ℕ) (index : List ℕ) (m p left : ℕ) : Type 0 where
+pub record Listing (t : List ℕ) (n : ℕ) (index : List ℕ) (size m p left : ℕ) : Type 0 where
   pub ahead : Ahead t p left
-  pub short : length t ≤ longestText
-  pub few : 8 * m ≤ p
-  pub long : length index ≡ indexPlaces
+  pub few : ruleWords * m ≤ p
+  pub long : length index ≡ size
+  pub enough : length t ≤ ruleWords * size
   pub each : (i : ℕ) → i < m → Stands t n (word index i)
   pub said : (r : Rule) → HasRule (linesFrom t p left) r → HasRule (linesOf t n) r
   pub whole : (r : Rule) → HasRule (linesOf t n) r → InIndex t index m r ⊎ HasRule (linesFrom t p left) r
 
-pub start : {t : List ℕ} {n : ℕ} {index : List ℕ} → Ahead t 0 n → length t ≤ longestText → length index ≡ indexPlaces → Listing t n index 0 0 n
-start a s l = record {
+pub start : {t : List ℕ} {n : ℕ} {index : List ℕ} → Ahead t 0 n → length t ≤ ruleWords * length index → Listing t n index (length index) 0 0 n
+start a s = record {
   ahead = a;
-  short = s;
   few = omega arith;
-  long = l;
+  long = refl;
+  enough = s;
   each = λ i h. absurd (let z : ⊥ = omega arith in z);
   said = λ r h. h;
   whole = λ r h. inr h;
 }
 
-module _ {t : List ℕ} {n : ℕ} {index : List ℕ} {m p left : ℕ} (k : Listing t n index m p left) where
+module _ {t : List ℕ} {n : ℕ} {index : List ℕ} {size m p left : ℕ} (k : Listing t n index size m p left) where
   pub end : left ≡ 0 → Indexed t n index m
   unfolding linesFrom
   end e = record {
-    readable = record { long = omega (arith, k .few, k .long, k .short, ahead-starts t p left (k .ahead)); each = λ i h. k .each i h .on };
+    readable = record { long = omega (arith, k .few, k .long, k .enough, ahead-starts t p left (k .ahead)); each = λ i h. k .each i h .on };
     sound = λ i h. k .each i h .said;
     whole = λ r h. ⊎-elim (λ i. i) (λ a. absurd (rw e at a)) (k .whole r h);
   }
@@ -67,12 +66,12 @@ module _ {t : List ℕ} {n : ℕ} {index : List ℕ} {m p left : ℕ} (k : Listi
     or-first r h = rw (lines-next t p left (omega (arith, l))) h
 
     module _ {w : ℕ} (e : w ≡ word t (p + 2)) where
-      pub pass : {g : List ℕ} {s u : ℕ} → (w ≡ ruleKind → ⊥) → g ≡ index → s ≡ m → u ≡ after t p → Listing t n g s u (left - 1)
+      pub pass : {g : List ℕ} {s u : ℕ} → (w ≡ ruleKind → ⊥) → g ≡ index → s ≡ m → u ≡ after t p → Listing t n g size s u (left - 1)
       pass o x y z = rw (x, y, z) record {
         ahead = next .1;
-        short = k .short;
         few = omega (arith, k .few);
         long = k .long;
+        enough = k .enough;
         each = k .each;
         said = λ r h. k .said r (or-first r (inr h));
         whole = λ r h. ⊎-elim inl (λ a. ⊎-elim (λ f. absurd (other r f)) inr (first-or r a)) (k .whole r h);
@@ -82,8 +81,8 @@ module _ {t : List ℕ} {n : ℕ} {index : List ℕ} {m p left : ℕ} (k : Listi
           other r f = let v = not-rule t (p + 2) (λ i. o (e ∙ i)) in let c : _≡_ {A = ℕ} 0 1 = cc in omega arith
 
       module _ (i : w ≡ ruleKind) where
-        pub room : m < indexPlaces
-        room = omega (arith, k .few, k .short, rule-long (next .0) (sym e ∙ i), after-inside (next .0))
+        pub room : m < size
+        room = omega (arith, k .few, k .enough, rule-long (next .0) (sym e ∙ i), after-inside (next .0))
 
         same : word (set index m (p + 2)) m ≡ p + 2
         unfolding word
@@ -103,12 +102,12 @@ module _ {t : List ℕ} {n : ℕ} {index : List ℕ} {m p left : ℕ} (k : Listi
             let c : ruleAt t (p + 2) ≡ r = cc in
             record { i = m; below = omega arith; is = ap (ruleAt t) same ∙ c }
 
-        pub put : {g : List ℕ} {s u : ℕ} → g ≡ set index m (p + 2) → s ≡ m + 1 → u ≡ after t p → Listing t n g s u (left - 1)
+        pub put : {g : List ℕ} {s u : ℕ} → g ≡ set index m (p + 2) → s ≡ m + 1 → u ≡ after t p → Listing t n g size s u (left - 1)
         put x y z = rw (x, y, z) record {
           ahead = next .1;
-          short = k .short;
           few = omega (arith, k .few, rule-long (next .0) (sym e ∙ i));
           long = length-set index m (p + 2) ∙ k .long;
+          enough = k .enough;
           each = below-more _ m (λ j h. rw (others j h) (k .each j h))
               (rw same record { on = rule-on (next .0) (sym e ∙ i); said = k .said _ (or-first _ (inl (rule-in t (p + 2) (sym e ∙ i)))) });
           said = λ r h. k .said r (or-first r (inr h));

@@ -2,7 +2,7 @@
 ghost use mathlib.Core.Path.{_≡_};
 ghost use mathlib.Core.Bool.{_&&_};
 ghost use mathlib.Core.Option.{some};
-ghost use Prim.Native.Nat.{ℕ, _+_, _/_, _≤_, _<_};
+ghost use Prim.Native.Nat.{ℕ, _+_, _*_, _/_, _≤_, _<_};
 ghost use lib.Dec.{eqb, leb};
 ghost use lib.ListN.{length};
 ghost use Rattle.basics.specs.Lists.{among};
@@ -11,11 +11,11 @@ ghost use Rattle.faults.specs.Limits.{longestText};
 ghost use Rattle.faults.specs.inner.Places.{atomPlaces};
 ghost use Rattle.aspif.specs.Statements.{choice, inHead};
 ghost use Rattle.aspif.specs.Grammar.{literalOf, plainHead};
-ghost use Rattle.aspif.specs.inner.Words.{word, behind, listAt, literalsAt, premisesAt, bodyAt, linesOf};
+ghost use Rattle.aspif.specs.inner.Words.{behind, listAt, literalsAt, premisesAt, bodyAt, linesOf};
 ghost use Rattle.aspif.specs.inner.Kept.{SmallHead, Ahead};
 ghost use Rattle.stable.specs.Meaning.{firstBroken, broken, FoundedBy};
 ghost use Rattle.stable.specs.inner.Values.{asBroken, asUnfounded};
-ghost use Rattle.stable.specs.inner.Index.{ruleAt, LiteralsOn, PremisesOn, BodyOn, RuleOn, indexPlaces, Readable, Indexed};
+ghost use Rattle.stable.specs.inner.Index.{ruleAt, LiteralsOn, PremisesOn, BodyOn, RuleOn, ruleWords, Readable, Indexed};
 ghost use Rattle.stable.specs.inner.Steps.{literalHolds, allHold, reachedBy, bodyHolds, fires, MarkedOne, AddedMarks, Round, Both, LeastBy, Sought};
 use aspif::kinds::NORMAL;
 use aspif::kinds::RULE;
@@ -31,8 +31,14 @@ use faults::ATOM_PLACES;
 use faults::AtomNo;
 use fields::WEIGHT_UNIT;
 
-// The longest index of rules: a rule takes eight words of the tape or more.
-const INDEX_PLACES: usize = 7500;
+// The words of a tape that is short: those of plans that are judged most often.
+const SHORT_TAPE: usize = 2000;
+
+// The index of the rules on a short tape: a rule takes eight words or more.
+const SHORT_INDEX: usize = 250;
+
+// The index of the rules on the longest tape.
+const LONG_INDEX: usize = 7500;
 
 // Which rule is broken first, by the place of its line.
 pub enum Broken {
@@ -317,7 +323,7 @@ fn seek(x: &[u8], found: &[u8]) -> Unfounded
 fn list_rules(tape: &[u32], n: usize, index: &mut [u32]) -> usize
     requires { ⌜ Ahead (now tape) 0 n ⌝ }
     requires { ⌜ length (now tape) ≤ longestText ⌝ }
-    requires { ⌜ length (now index) ≡ indexPlaces ⌝ }
+    requires { ⌜ length (now tape) ≤ ruleWords * length (now index) ⌝ }
     ensures { λ r. ⌜ Indexed (now (tape .entry)) n (now (index .exit)) r ⌝ }
 {
     let mut m = 0;
@@ -335,6 +341,21 @@ fn list_rules(tape: &[u32], n: usize, index: &mut [u32]) -> usize
     m
 }
 
+// The smallest unfounded atom of x by the rules among n lines, by an index with room for these.
+fn unfounded_by(tape: &[u32], n: usize, ext: &[u8], x: &[u8], index: &mut [u32]) -> Unfounded
+    requires { ⌜ Ahead (now tape) 0 n ⌝ }
+    requires { ⌜ length (now tape) ≤ longestText ⌝ }
+    requires { ⌜ length (now tape) ≤ ruleWords * length (now index) ⌝ }
+    requires { ⌜ length (now ext) ≡ atomPlaces ⌝ }
+    requires { ⌜ length (now x) ≡ atomPlaces ⌝ }
+    ensures { λ r. ⌜ FoundedBy (asUnfounded r) (isMarked (now (x .entry))) (isMarked (now (ext .entry))) (linesOf (now (tape .entry)) n) ⌝ }
+{
+    let m = list_rules(tape, n, index);
+    let mut found = [0u8; ATOM_PLACES];
+    least(tape, index, m, ext, x, &mut found);
+    seek(x, &found)
+}
+
 // The smallest unfounded atom of x by the rules among n lines.
 pub fn smallest_unfounded(tape: &[u32], n: usize, ext: &[u8], x: &[u8]) -> Unfounded
     requires { ⌜ Ahead (now tape) 0 n ⌝ }
@@ -343,9 +364,10 @@ pub fn smallest_unfounded(tape: &[u32], n: usize, ext: &[u8], x: &[u8]) -> Unfou
     requires { ⌜ length (now x) ≡ atomPlaces ⌝ }
     ensures { λ r. ⌜ FoundedBy (asUnfounded r) (isMarked (now (x .entry))) (isMarked (now (ext .entry))) (linesOf (now (tape .entry)) n) ⌝ }
 {
-    let mut index = [0u32; INDEX_PLACES];
-    let m = list_rules(tape, n, &mut index);
-    let mut found = [0u8; ATOM_PLACES];
-    least(tape, &index, m, ext, x, &mut found);
-    seek(x, &found)
+    if tape.len() <= SHORT_TAPE {
+        let mut index = [0u32; SHORT_INDEX];
+        return unfounded_by(tape, n, ext, x, &mut index);
+    }
+    let mut index = [0u32; LONG_INDEX];
+    unfounded_by(tape, n, ext, x, &mut index)
 }

@@ -1,19 +1,20 @@
--- `list_rules`: a rule of the lines is written or is ahead; each takes six words, so the index has room. Assumes nothing.
+-- `list_rules`: a rule of the lines is written or is ahead; each takes eight words or more, so the index has room. Assumes nothing.
 use mathlib.Core.Logic.{⊎-elim}
 use native.Mathlib.Omega.{arith}
 use borrow.Author.Needs.{needs}
+use lib.ListN.{length}
 use Rattle.stable.proofs.Listing.{Listing, start, here, room, put, pass, end}
 use Rattle.stable.proofs.list_rules.Statement.{statement}
 use Rattle.stable.proofs.list_rules.Tie as tie
 
 abbrev Inv-loop : tie.InvT-loop
-Inv-loop tape n index₀ m₀ p₀ left₀ index m p left = Listing tape n index m p left
+Inv-loop tape n index₀ m₀ p₀ left₀ index m p left = Listing tape n index (length index₀) m p left
 
 abbrev μ-loop : tie.MeasureT-loop
 μ-loop tape n index₀ m₀ p₀ left₀ index m p left = left
 
 loop-holds : tie.Need-loop-holds Inv-loop μ-loop
-loop-holds c = start (c .before .before .pre .0) (c .before .before .pre .1 .0) (c .before .before .pre .1 .1)
+loop-holds c = start (c .before .before .pre .0) (c .before .before .pre .1 .1)
 
 word-at-requires : tie.Need-word-at-requires Inv-loop μ-loop
 word-at-requires c κs = search needs
@@ -50,7 +51,7 @@ loop-again c =
     (c .before .if1 .came)
 
 same-length : tie.Need-same-length Inv-loop μ-loop
-same-length c = omega (arith, c .before .loop .inv .long, c .before .before .before .before .pre .1 .1)
+same-length c = c .before .loop .inv .long
 
 returns : tie.Need-returns Inv-loop μ-loop
 returns c = end (c .before .loop .inv) (c .loop-test .left)

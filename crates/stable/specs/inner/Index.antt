@@ -33,9 +33,9 @@ pub record RuleOn (t : List ℕ) (q : ℕ) : Type 0 where
   pub head : SmallHead (ruleAt t q .head)
   pub body : BodyOn t (behind t (q + 2))
 
--- the longest index: a rule takes eight words of the tape or more
-abbrev pub indexPlaces : ℕ
-indexPlaces = 7500
+-- the words of the shortest rule: the place and the size of its line, three of its head, three of its body
+abbrev pub ruleWords : ℕ
+ruleWords = 8
 
 -- the first m rules of an index can be read
 pub record Readable (t index : List ℕ) (m : ℕ) : Type 0 where
