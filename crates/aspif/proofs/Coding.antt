@@ -9,6 +9,7 @@ use lib.Dec.{eqb, lit<}
 use lib.IntN.{pos, negℤ}
 use lib.ListN.{length}
 use Rattle.basics.specs.Bools.{pick}
+use Rattle.basics.proofs.Lists.{all-any, map-back}
 use Rattle.fields.specs.Reading.{found}
 use Rattle.fields.specs.Fields.{nextInteger, weightUnit}
 use Rattle.fields.specs.inner.Tape.{listed}
@@ -39,16 +40,14 @@ literal-forth w = go (eqb (w % 2) 0) refl
 
 -- words are the words of the literals that they say
 pub literals-forth : (ws : List ℕ) → map literalWord (map literalOf ws) ≡ ws
-literals-forth [] = refl
-literals-forth (w ∷ ws) = rw (literal-forth w, literals-forth ws)
+literals-forth ws = map-back literalOf literalWord (λ w u. literal-forth w) ws (all-any ws)
 
 -- a word is the word of the premise that it says
 premise-forth : (w : ℕ) → premiseWord (premiseOf w) ≡ w
 premise-forth w = rw (literal-forth (w % weightUnit)) (omega arith)
 
 pub premises-forth : (ws : List ℕ) → map premiseWord (map premiseOf ws) ≡ ws
-premises-forth [] = refl
-premises-forth (w ∷ ws) = rw (premise-forth w, premises-forth ws)
+premises-forth ws = map-back premiseOf premiseWord (λ w u. premise-forth w) ws (all-any ws)
 
 -- ---- an integer
 

@@ -13,6 +13,7 @@ use lib.ListN.{length, getD, drop, length-append}
 use lib.Seq.{sets, sets-eq, length-sets, getD-drop, drop-drop, drop-append-seam}
 use Rattle.basics.specs.Bools.{pick}
 use Rattle.basics.proofs.Bools.{picked}
+use Rattle.basics.proofs.Lists.{all-any, map-back}
 use Rattle.basics.specs.Lists.{All}
 use Rattle.fields.specs.inner.Tape.{listed}
 use Rattle.fields.specs.inner.Kept.{IsAtom}
@@ -46,8 +47,7 @@ literal-back (negated a) = rw (odd-rest a, odd-half a)
 
 -- the words of literals say the literals
 pub literals-back : (ls : List Literal) → map literalOf (map literalWord ls) ≡ ls
-literals-back [] = refl
-literals-back (l ∷ ls) = rw (literal-back l, literals-back ls)
+literals-back ls = map-back literalWord literalOf (λ l u. literal-back l) ls (all-any ls)
 
 -- the word of a premise within its bounds says the premise
 premise-back : (p : Premise) → SmallPremise p → premiseOf (premiseWord p) ≡ p
@@ -57,8 +57,7 @@ premise-back p h =
     rw (e .0, e .1, literal-back (p .literal))
 
 premises-back : (ps : List Premise) → All SmallPremise ps → map premiseOf (map premiseWord ps) ≡ ps
-premises-back [] h = refl
-premises-back (p ∷ ps) h = rw (premise-back p (h .0), premises-back ps (h .1))
+premises-back = map-back premiseWord premiseOf premise-back
 
 -- the word of an integer says the integer
 pub integer-back : (z : ℤ) → integerOf (integerWord z) ≡ z

@@ -11,14 +11,14 @@ use lib.IntN.{pos, negℤ}
 use lib.ListN.{length, length-map}
 use Rattle.basics.specs.Bools.{pick}
 use Rattle.basics.specs.Lists.{All, Ascending}
-use Rattle.basics.proofs.Lists.{all-so}
+use Rattle.basics.proofs.Lists.{all-so, all-map}
 use Rattle.faults.specs.Answer.{got, refused}
 use Rattle.faults.specs.Limits.{lastTerm, mostCount, largestNumber, largestBound}
 use Rattle.fields.specs.Reading.{Reading, found}
 use Rattle.fields.specs.Fields.{space, byteAt, allPositive, natural, weightUnit, counted}
 use Rattle.fields.specs.inner.Kept.{IsAtom, Fits, ByteOf, ItemKept}
 use Rattle.fields.proofs.Readers.{ByReading, Reads, finds, stops, Any, by-grammar, by-carried, by-bounds, reads-found, reads-pick, reads-either, reads-so, reads-then, byte-reads, bytes-reads, lineEnd-reads, textEnd-reads, natural-reads, nextNatural-reads, nextInteger-reads, nextAtom-reads, nextTerm-reads, nextElement-reads, counted-reads, string-reads, rest-reads}
-use Rattle.aspif.specs.Statements.{positive, negated, choice, num, str, comp, defines, collects, states, Statement, rule, output, theory, comment, Line, atomOf}
+use Rattle.aspif.specs.Statements.{Literal, positive, negated, choice, num, str, comp, defines, collects, states, Statement, rule, output, theory, comment, Line, atomOf}
 use Rattle.aspif.specs.Grammar.{literalOf, integerOf, premiseOf, plainHead, headOf, heads, literals, normalBody, weightBody, body, ruleLine, outputLine, numericLine, stringLine, compoundLine, elementLine, Front, front, theoryLine, guardedLine, commentLine, theoryOf, theoryPart, statementOf, lineOf, lastLine, lines, noTag, firstLine, plan, answer, statements}
 use Rattle.aspif.specs.inner.Kept.{IsTerm, IsElement, IsByte, FromTo, Counted, SmallLiterals, SmallHead, SmallPremise, SmallBody, SmallWith, AllSmallWith, AllSmall, AllInRange}
 use Rattle.fields.specs.declared.Item.the-variants as of
@@ -33,18 +33,14 @@ atom-of w = go (eqb (w % 2) 0)
     go false = refl
 
 atoms-kept : (ws : List ℕ) → All (λ w. IsAtom (w / 2)) ws → All IsAtom (map atomOf (map literalOf ws))
-atoms-kept [] h = tt
-atoms-kept (w ∷ ws) h = (rw (atom-of w) (h .0), atoms-kept ws (h .1))
-
-atoms-few : (ws : List ℕ) → length ws ≤ mostCount → length (map atomOf (map literalOf ws)) ≤ mostCount
-atoms-few ws h = rw (length-map (map literalOf ws) atomOf, length-map ws literalOf) h
+atoms-kept ws h = all-map atomOf IsAtom (λ l i. i) (map literalOf ws) (all-map literalOf (λ (l : Literal). IsAtom (atomOf l)) (λ w i. rw (atom-of w) i) ws h)
 
 premises-kept : (s ws : List ℕ) → All (ItemKept s of.Premise) ws → All SmallPremise (map premiseOf ws)
-premises-kept s [] h = tt
-premises-kept s (w ∷ ws) h = ((rw (atom-of (w % weightUnit)) (h .0 .0), h .0 .1), premises-kept s ws (h .1))
+premises-kept s = all-map premiseOf SmallPremise (λ w i. (rw (atom-of (w % weightUnit)) (i .0), i .1))
 
-premises-few : (ws : List ℕ) → length ws ≤ mostCount → length (map premiseOf ws) ≤ mostCount
-premises-few ws h = rw (length-map ws premiseOf) h
+-- and no more of them than there are words
+few : {A B : Type 0} (f : A → B) (l : List A) → length l ≤ mostCount → length (map f l) ≤ mostCount
+few f l h = rw (length-map l f) h
 
 integer-kept : (low high w : ℕ) → Fits low high w → FromTo low high (integerOf w)
 integer-kept low high w f = go (eqb (w % 2) 0) refl
@@ -75,11 +71,11 @@ module _ (s : List ℕ) where
   literals-reads : (at : ℕ) → Reads (λ ws. SmallLiterals (map literalOf ws)) s at 2 (literals s at)
   unfolding literals
   literals-reads at =
-      reads-so (λ ws h. (atoms-kept ws (h .0), atoms-few ws (h .1))) (omega arith) (counted-reads of.Literal 5 mostCount by-bounds s at)
+      reads-so (λ ws h. (atoms-kept ws (h .0), few atomOf (map literalOf ws) (few literalOf ws (h .1)))) (omega arith) (counted-reads of.Literal 5 mostCount by-bounds s at)
 
   premises-reads : (at : ℕ) → Reads (λ ws. Counted SmallPremise (map premiseOf ws)) s at 2 (counted of.Premise 5 mostCount s at)
   premises-reads at =
-      reads-so (λ ws h. (premises-kept s ws (h .0), premises-few ws (h .1))) (omega arith) (counted-reads of.Premise 5 mostCount by-bounds s at)
+      reads-so (λ ws h. (premises-kept s ws (h .0), few premiseOf ws (h .1))) (omega arith) (counted-reads of.Premise 5 mostCount by-bounds s at)
 
   normalBody-reads : (at : ℕ) → Reads SmallBody s at 2 (normalBody s at)
   unfolding normalBody

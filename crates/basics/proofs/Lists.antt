@@ -1,7 +1,7 @@
 -- Laws of lists: what holds of all members, runs of stores, and lists of zeros. Assumes nothing.
 use Prim.Native.Nat.{ℕ, zero, suc, _+_, _<_}
 use mathlib.Core.Path.{_≡_, refl}
-use mathlib.Core.List.{List, [], _∷_, _++_}
+use mathlib.Core.List.{List, [], _∷_, _++_, map}
 use native.Mathlib.Omega.{arith}
 use native.Mathlib.Nat.{add-zero}
 use lib.ListN.{length, getD, set, replicate}
@@ -12,6 +12,21 @@ use Rattle.basics.specs.Lists.{All}
 pub all-so : {A : Type 0} {P Q : A → Type 0} → ((a : A) → P a → Q a) → (l : List A) → All P l → All Q l
 all-so f [] h = tt
 all-so f (a ∷ l) h = (f a (h .0), all-so f l (h .1))
+
+-- what each image has of which the member has something
+pub all-map : {A B : Type 0} {P : A → Type 0} (f : A → B) (Q : B → Type 0) → ((a : A) → P a → Q (f a)) → (l : List A) → All P l → All Q (map f l)
+all-map f Q h [] p = tt
+all-map f Q h (a ∷ l) p = (h a (p .0), all-map f Q h l (p .1))
+
+-- nothing is said of any member
+pub all-any : {A : Type 0} (l : List A) → All (λ (a : A). Unit {0}) l
+all-any [] = tt
+all-any (a ∷ l) = (tt, all-any l)
+
+-- a map that is undone on each member is undone on the list
+pub map-back : {A B : Type 0} {P : A → Type 0} (f : A → B) (g : B → A) → ((a : A) → P a → g (f a) ≡ a) → (l : List A) → All P l → map g (map f l) ≡ l
+map-back f g h [] p = refl
+map-back f g h (a ∷ l) p = rw (h a (p .0), map-back f g h l (p .1))
 
 -- a run of stores behind another is one run with it
 pub sets-append : (l : List ℕ) (o : ℕ) (xs ys : List ℕ) → sets (sets l o xs) (o + length xs) ys ≡ sets l o (xs ++ ys)

@@ -7,6 +7,9 @@ ghost use Rattle.faults.specs.Values.{number, asStep};
 // The bytes of the longest text.
 pub const LONGEST_TEXT: usize = 60000;
 
+// The bytes of a short text, for which the judge keeps a short tape and a short index of rules.
+pub const SHORT_TEXT: usize = 2000;
+
 // The largest atom.
 pub const LAST_ATOM: u32 = 4096;
 

@@ -164,7 +164,7 @@ nextTerm = nextNatural 5 lastTerm
 unfoldable pub nextElement : Reader ℕ
 nextElement = nextNatural 5 lastElement
 
--- ---- a literal and its weight, kept as one number: the literal's, and a unit for each 1 of the weight
+-- ---- a literal and its weight, kept as one number: the literal's, which is at most 8,193, and a unit for each 1 of the weight
 
 abbrev pub weightUnit : ℕ
 weightUnit = 16384

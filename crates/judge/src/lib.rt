@@ -15,6 +15,7 @@ use faults::CYCLE_ROOM;
 use faults::Kind;
 use faults::LONGEST_TEXT;
 use faults::Refusal;
+use faults::SHORT_TEXT;
 use faults::Step;
 use faults::TABLE_ROOM;
 use faults::TermNo;
@@ -26,9 +27,6 @@ use timetable::Time;
 
 pub mod show;
 mod timed;
-
-// The bytes of a text that gets a short tape.
-const SHORT_TEXT: usize = 2000;
 
 // The verdict: accepted, with the timetable's length; or refused, with its kind and place.
 pub enum Verdict {

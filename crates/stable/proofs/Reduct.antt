@@ -36,7 +36,8 @@ reached-split X S (p ∷ ps) = go (p .literal) refl (reached-split X S ps)
     go (positive a) e r = rw (e, r) (omega arith)
     go (negated a) e r = rw (e, r) (sign (X a))
 
-off-bound : (k o r : ℕ) → leb (k - o) r ≡ leb k (o + r)
+-- taken off a bound, or reached: the same
+pub off-bound : (k o r : ℕ) → leb (k - o) r ≡ leb k (o + r)
 off-bound k o r = go (leb k (o + r)) refl
   where
     go : (t : Bool) → leb k (o + r) ≡ t → leb (k - o) r ≡ t

@@ -6,7 +6,7 @@ use mathlib.Core.List.{List, _∷_, map}
 use mathlib.Core.Path.{_≡_, refl, _∙_, sym}
 use native.Mathlib.Omega.{arith}
 use native.Mathlib.Nat.{zero-add}
-use borrow.Author.Tests.{leb-true, leb-false, le-leb, lt-leb}
+use borrow.Author.Tests.{le-leb, lt-leb}
 use lib.Dec.{leb}
 use lib.ListN.{length, getD}
 use Rattle.basics.specs.inner.Bitmaps.{isMarked}
@@ -19,6 +19,7 @@ use Rattle.aspif.proofs.Kept.{atom-of}
 use Rattle.stable.specs.inner.Index.{PremisesOn}
 use Rattle.stable.specs.inner.Steps.{literalHolds, reachedBy}
 use Rattle.stable.proofs.Lines.{words-next}
+use Rattle.stable.proofs.Reduct.{off-bound}
 
 -- what the premises that are left reach
 abbrev rest : (x s t : List ℕ) (p n : ℕ) → ℕ
@@ -36,14 +37,6 @@ none bound r e = sym (le-leb bound r (omega arith))
 
 pub start : {x s t : List ℕ} {bound at n : ℕ} → PremisesOn t at → (bound ≡ 0 → ⊥) → n ≡ word t at → Walk x s t bound at bound (at + 1) n
 start k z e = rw e record { inside = k .inside; small = k .small; some = omega (arith, z); same = refl }
-
--- an amount more on both sides
-less-both : (due w r : ℕ) → w < due → leb due (w + r) ≡ leb (due - w) r
-less-both due w r h = go (leb (due - w) r) refl
-  where
-    go : (t : Bool) → leb (due - w) r ≡ t → leb due (w + r) ≡ t
-    go true q = le-leb due (w + r) (omega (arith, leb-true (due - w) r q))
-    go false q = lt-leb due (w + r) (omega (arith, leb-false (due - w) r q))
 
 module _ {x s t : List ℕ} {bound at due p left : ℕ} (k : Walk x s t bound at due p left) where
   pub end : left ≡ 0 → false ≡ leb bound (rest x s t (at + 1) (word t at))
@@ -80,4 +73,4 @@ module _ {x s t : List ℕ} {bound at due p left : ℕ} (k : Walk x s t bound at
       close e l = sym (step ∙ rw e (le-leb due _ (omega arith)))
 
       pub take : r ≡ true → getD t p 0 / weightUnit < due → Walk x s t bound at (due - getD t p 0 / weightUnit) (p + 1) (left - 1)
-      take e l = goes (omega arith) (rw e (less-both due _ _ l))
+      take e l = goes (omega arith) (rw e (sym (off-bound due _ _)))

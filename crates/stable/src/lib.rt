@@ -29,12 +29,10 @@ use aspif::words::PREMISES;
 use aspif::words::SAYS;
 use faults::ATOM_PLACES;
 use faults::AtomNo;
+use faults::SHORT_TEXT;
 use fields::WEIGHT_UNIT;
 
-// The words of a tape that is short: those of plans that are judged most often.
-const SHORT_TAPE: usize = 2000;
-
-// The index of the rules on a short tape: a rule takes eight words or more.
+// The index of the rules on the tape of a short text: a rule takes eight words or more.
 const SHORT_INDEX: usize = 250;
 
 // The index of the rules on the longest tape.
@@ -364,7 +362,7 @@ pub fn smallest_unfounded(tape: &[u32], n: usize, ext: &[u8], x: &[u8]) -> Unfou
     requires { ⌜ length (now x) ≡ atomPlaces ⌝ }
     ensures { λ r. ⌜ FoundedBy (asUnfounded r) (isMarked (now (x .entry))) (isMarked (now (ext .entry))) (linesOf (now (tape .entry)) n) ⌝ }
 {
-    if tape.len() <= SHORT_TAPE {
+    if tape.len() <= SHORT_TEXT {
         let mut index = [0u32; SHORT_INDEX];
         return unfounded_by(tape, n, ext, x, &mut index);
     }

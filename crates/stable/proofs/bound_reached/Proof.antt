@@ -57,9 +57,12 @@ loop-less c = omega (arith, c .before .before .before .loop-test .taken)
 
 loop-again : tie.Need-loop-again Inv-loop μ-loop
 loop-again c =
+    let walk = c .before .before .before .before .loop .inv in
+    let some = c .before .before .before .loop-test .taken in
+    let truth = c .before .literal-true .ensures in
     ⊎-elim
-    (λ w. rw (w .2) (take (c .before .before .before .before .loop .inv) (c .before .before .before .loop-test .taken) (c .before .literal-true .ensures) (w .0 .taken) (w .1 .left)))
-    (λ w. rw (w .1) (pass (c .before .before .before .before .loop .inv) (c .before .before .before .loop-test .taken) (c .before .literal-true .ensures) (w .0 .left)))
+    (λ w. rw (w .2) (take walk some truth (w .0 .taken) (w .1 .left)))
+    (λ w. rw (w .1) (pass walk some truth (w .0 .left)))
     (c .if2 .came)
 
 returns-3 : tie.Need-returns-3 Inv-loop μ-loop

@@ -20,10 +20,11 @@ same-length c = c .before .before .literals .kept .1 .1 .0 ∙ c .before .before
 
 returns : tie.Need-returns
 unfolding normalBody
-returns c = (
-  c .before .before .literals .ensures .0 ∙ on-last _ _ _ _ _ _ _ (on-more _ _ _ (_ ∷ _ ∷ []) (on-start _ _) (c .before .before .before .before .before .before .begin .ensures .0) (c .before .before .before .before .before .before .begin .ensures .1)) (λ ls. rw literals-forth),
-  c .before .before .literals .ensures .1,
-)
+returns c =
+    let begin = c .before .before .before .before .before .before .begin in
+    let literals = c .before .before .literals in
+    let words = on-more _ _ _ (_ ∷ _ ∷ []) (on-start _ _) (begin .ensures .0) (begin .ensures .1) in
+    (literals .ensures .0 ∙ on-last _ _ _ _ _ _ _ words (λ ls. rw literals-forth), literals .ensures .1)
 
 pub normal-body-spec : {M : Type 1} → statement M
 normal-body-spec = tie.close (tie.spec begin-requires literals-requires same-length returns)

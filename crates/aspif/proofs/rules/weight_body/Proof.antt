@@ -44,11 +44,15 @@ same-length c = c .before .before .counted .kept .1 .1 .1 .1 .1 .0 ∙ c .before
 
 returns-2 : tie.Need-returns-2
 unfolding weightBody
-returns-2 c = (
-  rw (← (c .before .before .before .before .before .before .before .before .before .before .before .next-natural .ensures), c .before .before .before .before .before .before .before .before .before .a .given .1) (c .before .before .counted .ensures .0 ∙ on-last _ _ _ _ _ _ _
-      (on-more _ _ _ (_ ∷ _ ∷ []) (on-start _ _) (c .before .before .before .before .before .before .begin .ensures .0) (c .before .before .before .before .before .before .begin .ensures .1)) (λ ps. rw premises-forth)),
-  c .before .before .counted .ensures .1,
-)
+returns-2 c =
+    let next-natural = c .before .before .before .before .before .before .before .before .before .before .before .next-natural in
+    let the-a = c .before .before .before .before .before .before .before .before .before .a in
+    let begin = c .before .before .before .before .before .before .begin in
+    let counted = c .before .before .counted in (
+      rw (← (next-natural .ensures), the-a .given .1) (counted .ensures .0 ∙ on-last _ _ _ _ _ _ _
+          (on-more _ _ _ (_ ∷ _ ∷ []) (on-start _ _) (begin .ensures .0) (begin .ensures .1)) (λ ps. rw premises-forth)),
+      counted .ensures .1,
+    )
 
 pub weight-body-spec : {M : Type 1} → statement M
 weight-body-spec =
