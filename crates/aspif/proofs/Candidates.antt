@@ -18,7 +18,7 @@ use Rattle.fields.proofs.Naturals.{byte-read, byte-missed, there}
 use Rattle.fields.proofs.Readers.{natural-within}
 use Rattle.aspif.specs.Grammar.{answer, lastLine}
 use Rattle.aspif.specs.Candidate.{sevenfold, atomAbove, ending, ascending, candidateLine, candidate}
-use Rattle.aspif.specs.inner.Bitmap.{atomsOf, Blank}
+use Rattle.aspif.specs.inner.Bitmap.{atomsOf, Blank, EndsAt}
 use Rattle.basics.specs.Bools.{pick}
 use Rattle.basics.proofs.Bitmaps.{marks-none, marks-more}
 use Rattle.basics.proofs.Lists.{zeros}
@@ -205,6 +205,14 @@ module _ {s x : List ℕ} {low at : ℕ} {whole : Reading (List ℕ)} (h : Marki
 
       pub marking-last : {i q l : ℕ} → fault i q ≡ byte 32 s m → found tt l ≡ ending s m → got (atomsOf (set x v 1)) ≡ answer whole
       marking-last b d = rw (next, ← e, ne-eqb _ _ (byte-missed 32 s m b), ← d, marks)
+
+      -- it is the last
+      pub marking-above : EndsAt v (set x v 1)
+      marking-above = record {
+        places = simp length-set (h .places);
+        small = bounds .1;
+        none = λ a g. rw (getD-set-other x v a 1 0 (λ d. omega arith), h .clear a (omega (arith, bounds)));
+      }
 
       pub marking-more : {l : ℕ} → found tt l ≡ byte 32 s m → Marking s (set x v 1) v l whole
       marking-more b =

@@ -75,7 +75,7 @@ ahead-small t p (suc n) a = (a .0 .small, ahead-small t (after t p) n (a .1))
 
 module _ {t : List ℕ} {p : ℕ} (l : LineOn t p) where
   -- its second word counts the words behind it
-  size-is : word t (p + 1) ≡ length (wordsOf (saysAt t (p + 2)))
+  pub size-is : word t (p + 1) ≡ length (wordsOf (saysAt t (p + 2)))
   size-is = word-of t (words (lineAt t p)) p 1 (l .stand .are) (omega arith)
 
   -- so the next line stands within the tape or at its end

@@ -10,7 +10,7 @@ ghost use Rattle.faults.specs.Limits.{lastAtom};
 ghost use Rattle.faults.specs.Values.{number};
 ghost use Rattle.aspif.specs.Candidate.{atomAbove, ending, ascending, candidate};
 ghost use Rattle.aspif.specs.inner.Bitmap.{Blank};
-ghost use Rattle.aspif.specs.inner.Values.{asMarked};
+ghost use Rattle.aspif.specs.inner.Values.{asMarked, MarkedTo};
 use crate::lines::last_line;
 use faults::AtomNo;
 use faults::Kind;
@@ -22,9 +22,9 @@ use fields::Passed;
 use fields::SPACE;
 use fields::WordField;
 
-// What marking the atoms gives.
+// What marking the atoms gives: the last of them, or 0 where there is none.
 pub enum Marked {
-    Done,
+    Done(AtomNo),
     Refused(Refusal),
 }
 
@@ -35,7 +35,7 @@ impl Marked {
         ensures { λ r. ⌜ ((x : List ℕ) → asMarked self x ≡ refused (number (r .kind)) (r .place)) ⌝ }
     {
         match self {
-            Marked::Done => Refusal {
+            Marked::Done(_) => Refusal {
                 kind: Kind::Candidate,
                 place: 0,
             },
@@ -86,6 +86,7 @@ fn ending(c: Cursor, s: &[u8]) -> Passed
 fn ascending(c: Cursor, s: &[u8], x: &mut [u8]) -> Marked
     requires { ⌜ Blank (now x) ⌝ }
     ensures { λ r. ⌜ asMarked r (now (x .exit)) ≡ answer (ascending lastAtom 0 (now (s .entry)) (c .at)) ⌝ }
+    ensures { λ r. ⌜ MarkedTo r (now (x .exit)) ⌝ }
 {
     let mut d = c;
     let mut low = AtomNo(0);
@@ -102,7 +103,7 @@ fn ascending(c: Cursor, s: &[u8], x: &mut [u8]) -> Marked
             let Passed::Got(_) = z else {
                 return Marked::Refused(z.refusal());
             };
-            return Marked::Done;
+            return Marked::Done(v);
         };
         d = next;
         low = v;
@@ -115,6 +116,7 @@ fn ascending(c: Cursor, s: &[u8], x: &mut [u8]) -> Marked
 pub fn candidate(s: &[u8], x: &mut [u8]) -> Marked
     requires { ⌜ Blank (now x) ⌝ }
     ensures { λ r. ⌜ asMarked r (now (x .exit)) ≡ candidate (now (s .entry)) ⌝ }
+    ensures { λ r. ⌜ MarkedTo r (now (x .exit)) ⌝ }
 {
     let c = Cursor::start();
     let a = c.line_end(s);
@@ -125,5 +127,5 @@ pub fn candidate(s: &[u8], x: &mut [u8]) -> Marked
     let Passed::Got(_) = b else {
         return Marked::Refused(b.refusal());
     };
-    Marked::Done
+    Marked::Done(AtomNo(0))
 }

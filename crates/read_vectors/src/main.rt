@@ -110,7 +110,7 @@ fn print_candidate(s: &[u8]) {
     let mut x = [0u8; ATOM_PLACES];
     let a = candidate(s, &mut x);
     match a {
-        Marked::Done => print_atoms(&x),
+        Marked::Done(_) => print_atoms(&x),
         Marked::Refused(r) => print_refusal(r),
     }
 }

@@ -12,6 +12,7 @@ ghost use Rattle.faults.specs.inner.Places.{atomPlaces};
 ghost use Rattle.aspif.specs.Statements.{choice, inHead};
 ghost use Rattle.aspif.specs.Grammar.{literalOf, plainHead};
 ghost use Rattle.aspif.specs.inner.Words.{behind, listAt, literalsAt, premisesAt, bodyAt, linesOf};
+ghost use Rattle.aspif.specs.inner.Bitmap.{Blank, EndsAt};
 ghost use Rattle.aspif.specs.inner.Kept.{SmallHead, Ahead};
 ghost use Rattle.stable.specs.Meaning.{firstBroken, broken, FoundedBy};
 ghost use Rattle.stable.specs.inner.Values.{asBroken, asUnfounded};
@@ -268,15 +269,16 @@ fn both(e: u8, v: u8) -> u8
     0
 }
 
-// The external atoms in x, as the first atoms found.
-fn facts(ext: &[u8], x: &[u8], found: &mut [u8])
+// The external atoms in x, none of which is above the last, as the first atoms found.
+fn facts(ext: &[u8], x: &[u8], last: AtomNo, found: &mut [u8])
     requires { ⌜ length (now ext) ≡ atomPlaces ⌝ }
-    requires { ⌜ length (now x) ≡ atomPlaces ⌝ }
-    requires { ⌜ length (now found) ≡ atomPlaces ⌝ }
+    requires { ⌜ EndsAt (last .0) (now x) ⌝ }
+    requires { ⌜ Blank (now found) ⌝ }
     ensures { λ r. ⌜ Both (now (ext .entry)) (now (x .entry)) (now (found .exit)) ⌝ }
 {
+    let top = last.0 as usize + 1;
     let mut a = 0;
-    while a < ATOM_PLACES {
+    while a < top {
         let v = both(ext[a], x[a]);
         found[a] = v;
         a += 1;
@@ -284,14 +286,22 @@ fn facts(ext: &[u8], x: &[u8], found: &mut [u8])
 }
 
 // The least model of the reduct, by rounds until nothing is new.
-fn least(tape: &[u32], index: &[u32], m: usize, ext: &[u8], x: &[u8], found: &mut [u8])
+fn least(
+    tape: &[u32],
+    index: &[u32],
+    m: usize,
+    ext: &[u8],
+    x: &[u8],
+    last: AtomNo,
+    found: &mut [u8],
+)
     requires { ⌜ Readable (now tape) (now index) m ⌝ }
     requires { ⌜ length (now ext) ≡ atomPlaces ⌝ }
-    requires { ⌜ length (now x) ≡ atomPlaces ⌝ }
-    requires { ⌜ length (now found) ≡ atomPlaces ⌝ }
+    requires { ⌜ EndsAt (last .0) (now x) ⌝ }
+    requires { ⌜ Blank (now found) ⌝ }
     ensures { λ r. ⌜ LeastBy (isMarked (now (x .entry))) (isMarked (now (ext .entry))) (now (tape .entry)) (now (index .entry)) m (now (found .exit)) ⌝ }
 {
-    facts(ext, x, found);
+    facts(ext, x, last, found);
     let mut t = 1;
     while t != 0 {
         t = round(tape, index, m, x, found);
@@ -299,13 +309,14 @@ fn least(tape: &[u32], index: &[u32], m: usize, ext: &[u8], x: &[u8], found: &mu
 }
 
 // The smallest atom in x that is not found.
-fn seek(x: &[u8], found: &[u8]) -> Unfounded
-    requires { ⌜ length (now x) ≡ atomPlaces ⌝ }
+fn seek(x: &[u8], last: AtomNo, found: &[u8]) -> Unfounded
+    requires { ⌜ EndsAt (last .0) (now x) ⌝ }
     requires { ⌜ length (now found) ≡ atomPlaces ⌝ }
     ensures { λ r. ⌜ Sought (asUnfounded r) (now (x .entry)) (now (found .entry)) ⌝ }
 {
+    let top = last.0 as usize + 1;
     let mut a: usize = 0;
-    while a < ATOM_PLACES {
+    while a < top {
         if x[a] == 1 {
             if found[a] != 1 {
                 let atom = a as u32;
@@ -340,32 +351,39 @@ fn list_rules(tape: &[u32], n: usize, index: &mut [u32]) -> usize
 }
 
 // The smallest unfounded atom of x by the rules among n lines, by an index with room for these.
-fn unfounded_by(tape: &[u32], n: usize, ext: &[u8], x: &[u8], index: &mut [u32]) -> Unfounded
+fn unfounded_by(
+    tape: &[u32],
+    n: usize,
+    ext: &[u8],
+    x: &[u8],
+    last: AtomNo,
+    index: &mut [u32],
+) -> Unfounded
     requires { ⌜ Ahead (now tape) 0 n ⌝ }
     requires { ⌜ length (now tape) ≤ longestText ⌝ }
     requires { ⌜ length (now tape) ≤ ruleWords * length (now index) ⌝ }
     requires { ⌜ length (now ext) ≡ atomPlaces ⌝ }
-    requires { ⌜ length (now x) ≡ atomPlaces ⌝ }
+    requires { ⌜ EndsAt (last .0) (now x) ⌝ }
     ensures { λ r. ⌜ FoundedBy (asUnfounded r) (isMarked (now (x .entry))) (isMarked (now (ext .entry))) (linesOf (now (tape .entry)) n) ⌝ }
 {
     let m = list_rules(tape, n, index);
     let mut found = [0u8; ATOM_PLACES];
-    least(tape, index, m, ext, x, &mut found);
-    seek(x, &found)
+    least(tape, index, m, ext, x, last, &mut found);
+    seek(x, last, &found)
 }
 
-// The smallest unfounded atom of x by the rules among n lines.
-pub fn smallest_unfounded(tape: &[u32], n: usize, ext: &[u8], x: &[u8]) -> Unfounded
+// The smallest unfounded atom of x, none of which is above the last, by the rules among n lines.
+pub fn smallest_unfounded(tape: &[u32], n: usize, ext: &[u8], x: &[u8], last: AtomNo) -> Unfounded
     requires { ⌜ Ahead (now tape) 0 n ⌝ }
     requires { ⌜ length (now tape) ≤ longestText ⌝ }
     requires { ⌜ length (now ext) ≡ atomPlaces ⌝ }
-    requires { ⌜ length (now x) ≡ atomPlaces ⌝ }
+    requires { ⌜ EndsAt (last .0) (now x) ⌝ }
     ensures { λ r. ⌜ FoundedBy (asUnfounded r) (isMarked (now (x .entry))) (isMarked (now (ext .entry))) (linesOf (now (tape .entry)) n) ⌝ }
 {
     if tape.len() <= SHORT_TEXT {
         let mut index = [0u32; SHORT_INDEX];
-        return unfounded_by(tape, n, ext, x, &mut index);
+        return unfounded_by(tape, n, ext, x, last, &mut index);
     }
     let mut index = [0u32; LONG_INDEX];
-    unfounded_by(tape, n, ext, x, &mut index)
+    unfounded_by(tape, n, ext, x, last, &mut index)
 }

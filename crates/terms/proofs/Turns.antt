@@ -1,5 +1,5 @@
 -- One line's turn: what entering its number does to the tables, how its answer goes on to the lines behind it, and how a difference is stored.
-use Prim.Native.Nat.{ℕ, zero, suc, _+_, _≤_, _<_}
+use Prim.Native.Nat.{ℕ, zero, suc, _+_, _*_, _≤_, _<_}
 use mathlib.Core.Path.{_≡_, refl, sym, _∙_, fun-ext}
 use mathlib.Core.List.{List, [], _∷_, append-assoc}
 use mathlib.Core.Bool.{Bool, true, false, _&&_, not}
@@ -14,16 +14,17 @@ use lib.IntN.{ℤ, pos}
 use Rattle.basics.specs.Bools.{pick}
 use Rattle.basics.proofs.Bools.{or-true}
 use Rattle.faults.specs.Answer.{Answer, got, refused}
-use Rattle.faults.specs.inner.Places.{atomPlaces}
 use Rattle.faults.specs.declared.Step.the-variants.{Good, Refused}
 use Rattle.faults.specs.declared.Refusal.{Refusal}
-use Rattle.aspif.specs.Statements.{Term, Element, Guard, unguarded, guard, theoryIn}
-use Rattle.aspif.specs.inner.Words.{word, saysAt}
+use Rattle.aspif.specs.Statements.{Term, Element, Guard, unguarded, guard, defines, collects, states, Statement, rule, output, theory, comment, theoryIn}
+use Rattle.aspif.specs.inner.Words.{wordsOf, word, saysAt, after}
+use Rattle.aspif.specs.inner.Kept.{LineOn}
+use Rattle.aspif.proofs.Walking.{size-is}
 use Rattle.diffs.specs.Diff.{Diff}
 use Rattle.terms.specs.Says.{diffWord, atMost}
 use Rattle.terms.specs.Terms.{defined, allDefined, isString, boundOf, Pair, pairIn, joined, differenceOf, guardUses, Stated, faulty, more}
-use Rattle.terms.specs.inner.Tables.{roleOf, termOf, elementOf, termOn, elementOn, lookIn, elementsIn, takenIn, envOf, statedOn, AllZero, entered, changed, add, walk, heldAt, tabulated, gather}
-use Rattle.terms.specs.inner.Values.{asTurn, Turned, RoomFor, Stored}
+use Rattle.terms.specs.inner.Tables.{roleOf, termOf, elementOf, termOn, elementOn, lookIn, elementsIn, takenIn, envOf, differenceIn, statedOn, changed, add, walk, heldAt, tabulated, gather}
+use Rattle.terms.specs.inner.Values.{differenceWords, Roomy, Within, asTurn, Lasting, Turned, RoomFor, Stored}
 use Rattle.terms.specs.declared.lines.Turn.{Turn}
 use Rattle.terms.specs.declared.lines.Role.the-variants as role
 use Rattle.terms.specs.declared.lines.Turn.the-variants as turn
@@ -50,9 +51,9 @@ module _ (t : List ℕ) (q : ℕ) where
   unfolding elementsIn elementOn
   elements-entered els u h = enter (elementOn t) els u (q + 1) h ∙ rw add-one
 
-seen-entered : (seen : List ℕ) (u q : ℕ) → u < length seen → takenIn (set seen u (q + 1)) ≡ changed (takenIn seen) u true
+seen-entered : (seen : List ℕ) (u : ℕ) → u < length seen → takenIn (set seen u 1) ≡ changed (takenIn seen) u true
 unfolding takenIn
-seen-entered seen u q h = rw (ne-eqb (q + 1) 0 (λ z. omega arith)) at (enter (λ e. not (eqb e 0)) seen u (q + 1) h)
+seen-entered seen u h = enter (λ e. not (eqb e 0)) seen u 1 h
 
 -- ---- a line's turn
 
@@ -61,28 +62,33 @@ module _ (t terms els seen : List ℕ) (p : ℕ) where
   abbrev fault : Bool
   fault = faulty (envOf t terms els seen) (theoryIn (saysAt t (p + 2)))
 
+  stopped : (r : Turn) {k q : ℕ} → asTurn r ≡ refused k q → Lasting r t p
+  stopped turn.Goes e = tt
+  stopped (turn.States a x y k) e = absurd (let z : _≡_ {A = ℕ} 0 1 = (cc) in omega arith)
+  stopped (turn.Refused x) e = tt
+
   -- a line that is refused ends the walk
   pub turn-refused : (r : Turn) → asTurn r ≡ refused 6 (word t p) → true ≡ fault → Turned t p terms els seen r terms els seen
   unfolding walk
-  turn-refused r e b = record { goes = λ ls. rw (e, ← b); counts = rw e }
+  turn-refused r e b = record { goes = λ ls. rw (e, ← b); lasts = stopped r e }
 
   pub term-turned : roleOf (word t (p + 2)) ≡ role.Term → (u : ℕ) (terms′ : List ℕ) → false ≡ fault → u ≡ word t (p + 2 + 1) → u < length terms → terms′ ≡ set terms u (p + 2 + 1)
       → Turned t p terms els seen turn.Goes terms′ els seen
   unfolding walk add envOf
   term-turned r u terms′ b eu l e =
       let d = rw r at (role-does t (p + 2)) in
-      record { goes = λ ls. rw (← b, e, terms-entered t (p + 2) terms u l, d .1, eu); counts = refl }
+      record { goes = λ ls. rw (← b, e, terms-entered t (p + 2) terms u l, d .1, eu); lasts = tt }
 
   pub element-turned : roleOf (word t (p + 2)) ≡ role.Element → (v : ℕ) (els′ : List ℕ) → false ≡ fault → v ≡ word t (p + 2 + 1) → v < length els → els′ ≡ set els v (p + 2 + 1)
       → Turned t p terms els seen turn.Goes terms els′ seen
   unfolding walk add envOf
   element-turned r v els′ b ev l e =
       let d = rw r at (role-does t (p + 2)) in
-      record { goes = λ ls. rw (← b, e, elements-entered t (p + 2) els v l, d .1, ev); counts = refl }
+      record { goes = λ ls. rw (← b, e, elements-entered t (p + 2) els v l, d .1, ev); lasts = tt }
 
   pub other-turned : roleOf (word t (p + 2)) ≡ role.Other → Turned t p terms els seen turn.Goes terms els seen
   unfolding walk add faulty
-  other-turned r = let d = rw r at (role-does t (p + 2)) in record { goes = λ ls. rw d; counts = refl }
+  other-turned r = let d = rw r at (role-does t (p + 2)) in record { goes = λ ls. rw d; lasts = tt }
 
 -- ---- a difference uses nothing that is unknown
 
@@ -108,55 +114,54 @@ all-known look els p (v ∷ []) (guard g u) d h =
     let j = joined-is (pairIn look (els v)) (boundOf look (look u)) d (b .1) in
     rw (string-is diffWord (look p) (a .0), pair-there look (els v) (j .0), string-is atMost (look g) (b .0), bound-there look (look u) (j .1))
 
--- ---- how many atoms are entered: each difference enters one, so there are at most as many as there are atoms
+-- ---- a line that states a difference has its words
 
-entered-le : (l : List ℕ) → entered l ≤ length l
-unfolding entered
-entered-le [] = omega arith
-entered-le (x ∷ l) = go (eqb x 0) (entered-le l)
-  where
-    go : (b : Bool) → entered l ≤ length l → pick b 0 1 + entered l ≤ suc (length l)
-    go true h = omega arith
-    go false h = omega arith
+long : (look : ℕ → Option Term) (els : ℕ → Option Element) (x : Statement) (f : Diff) → differenceIn look els (theoryIn x) ≡ some f → differenceWords ≤ 2 + length (wordsOf x)
+unfolding differenceOf
+long look els (rule h b) f e = absurd (never e)
+long look els (output bs c) f e = absurd (never e)
+long look els (comment bs) f e = absurd (never e)
+long look els (theory (defines u x)) f e = absurd (never e)
+long look els (theory (collects v x)) f e = absurd (never e)
+long look els (theory (states a p [] g)) f e = absurd (never e)
+long look els (theory (states a p (v ∷ w ∷ vs) g)) f e = absurd (never e)
+long look els (theory (states a p (v ∷ []) unguarded)) f e = absurd (never e)
+long look els (theory (states a p (v ∷ []) (guard g u))) f e = omega arith
 
-entered-set : (l : List ℕ) (i m : ℕ) → i < length l → getD l i 0 ≡ 0 → (m ≡ 0 → ⊥) → entered (set l i m) ≡ entered l + 1
-unfolding entered
-entered-set [] i m h e z = absurd (omega arith)
-entered-set (x ∷ l) zero m h e z = rw (ne-eqb m 0 z, eq-eqb x 0 e) (omega arith)
-entered-set (x ∷ l) (suc i) m h e z = omega (arith, entered-set l i m (omega arith) e z)
-
-pub entered-none : (l : List ℕ) → AllZero l → 0 ≡ entered l
-unfolding entered word
-entered-none [] b = refl
-entered-none (x ∷ l) b =
-    let e : x ≡ 0 = b .zero-at 0 in
-    rw (eq-eqb x 0 e) (omega (arith, entered-none l (record { zero-at = λ i. b .zero-at (suc i) })))
+lasting : (t terms els : List ℕ) (p : ℕ) (f : Diff) → LineOn t p → some f ≡ statedOn t terms els (p + 2) → p + differenceWords ≤ after t p
+unfolding statedOn
+lasting t terms els p f l e = omega (arith, size-is l, long (lookIn t terms) (elementsIn t els) (saysAt t (p + 2)) f (sym e))
 
 -- ---- a theory atom's turn
 
 module _ (t terms els seen : List ℕ) (p : ℕ) (r : roleOf (word t (p + 2)) ≡ role.Atom) where
-  pub atom-second : (a e : ℕ) → a ≡ word t (p + 2 + 1) → e ≡ word seen a → (e ≡ 0 → ⊥) → true ≡ fault t terms els seen p
-  unfolding faulty envOf takenIn
-  atom-second a e ea ee z = let d = rw r at (role-does t (p + 2)) in rw (d .1, ← ea, ← ee, ne-eqb e 0 z) (simp or-true)
+  pub atom-second : (a : ℕ) → a ≡ word t (p + 2 + 1) → true ≡ takenIn seen a → true ≡ fault t terms els seen p
+  unfolding faulty envOf
+  atom-second a ea ee = let d = rw r at (role-does t (p + 2)) in rw (d .1, ← ea, ← ee) (simp or-true)
 
   pub atom-none : none ≡ statedOn t terms els (p + 2) → true ≡ fault t terms els seen p
   unfolding faulty envOf statedOn
   atom-none z = let d = rw r at (role-does t (p + 2)) in rw (d .1, ← (rw (d .1) at z)) (simp or-true)
 
-  pub atom-turned : (x : Turn) (a e : ℕ) (f : Diff) (seen′ : List ℕ)
-      → a ≡ word t (p + 2 + 1) → e ≡ word seen a → e ≡ 0 → some f ≡ statedOn t terms els (p + 2) → a < length seen → seen′ ≡ set seen a (p + 2 + 1)
+  pub atom-turned : (x : Turn) (a : ℕ) (f : Diff) (seen′ : List ℕ) → LineOn t p
+      → a ≡ word t (p + 2 + 1) → false ≡ takenIn seen a → some f ≡ statedOn t terms els (p + 2) → a < length seen → seen′ ≡ set seen a 1
       → asTurn x ≡ got (some (record { atom = a; says = f }))
       → Turned t p terms els seen x terms els seen′
-  unfolding faulty walk add envOf takenIn statedOn word
-  atom-turned x a e f seen′ ea ee z fd l es ex =
+  unfolding faulty walk add envOf statedOn
+  atom-turned x a f seen′ on ea ee fd l es ex =
       let d = rw r at (role-does t (p + 2)) in
       let g = rw (d .1) at fd in
-      let w : word seen (word t (p + 2 + 1)) ≡ 0 = rw (← ea) (sym ee ∙ z) in
+      let w : takenIn seen (word t (p + 2 + 1)) ≡ false = rw (← ea) (sym ee) in
       let kn = all-known (lookIn t terms) (elementsIn t els) _ _ (d .0) f (sym g) in
       record {
-        goes = λ ls. rw (ex, es, seen-entered seen a (p + 2) l, d .1, kn, w, ← g, ea);
-        counts = rw (ex, es, entered-set seen a (p + 2 + 1) l (sym ee ∙ z) (λ o. omega arith));
+        goes = λ ls. rw (ex, es, seen-entered seen a l, d .1, kn, w, ← g, ea);
+        lasts = stated x (lasting t terms els p f on fd) ex;
       }
+    where
+      stated : (x : Turn) {b : ℕ} → p + differenceWords ≤ after t p → asTurn x ≡ got (some (record { atom = b; says = f })) → Lasting x t p
+      stated turn.Goes h e = tt
+      stated (turn.States a x y k) h e = h
+      stated (turn.Refused q) h e = tt
 
 -- ---- the differences stored
 
@@ -204,8 +209,14 @@ module _ (atoms xs ys : List ℕ) (ks : List ℤ) (n a x y : ℕ) (k : ℤ)
   stored-one s e = stored-more s n (heldAt atoms xs ys ks) _ _ e before-n at-n
 
 -- there is room for one more
-pub room-left : {t : List ℕ} {p : ℕ} {terms els seen terms′ els′ seen′ : List ℕ} (s : Turn) (n : ℕ)
-    → Turned t p terms els seen s terms′ els′ seen′ → n ≡ entered seen → length seen′ ≡ atomPlaces → RoomFor s n
-room-left turn.Goes n h e l = tt
-room-left {seen = seen} {seen′ = seen′} (turn.States a x y k) n h e l = let c : entered seen + 1 ≡ entered seen′ = cc (h .counts) in omega (arith, entered-le seen′)
-room-left (turn.Refused r) n h e l = tt
+pub room-left : {t terms els seen terms′ els′ seen′ atoms xs ys : List ℕ} {ks : List ℤ} {p : ℕ} (s : Turn) (n : ℕ)
+    → Turned t p terms els seen s terms′ els′ seen′ → differenceWords * n ≤ p → after t p ≤ length t → Roomy (length t) atoms xs ys ks → RoomFor s n atoms xs ys ks
+room-left turn.Goes n h e l r = tt
+room-left (turn.States a x y k) n h e l r =
+    record {
+      in-atoms = omega (arith, h .lasts, r .for-atoms);
+      in-xs = omega (arith, h .lasts, r .for-xs);
+      in-ys = omega (arith, h .lasts, r .for-ys);
+      in-ks = omega (arith, h .lasts, r .for-ks);
+    }
+room-left (turn.Refused x) n h e l r = tt

@@ -1,26 +1,26 @@
 -- The walk over all lines of the tape: what holds before each turn, at the start, and at the end.
-use Prim.Native.Nat.{ℕ, _-_, _≤_, _<_}
+use Prim.Native.Nat.{ℕ, _+_, _-_, _*_, _≤_, _<_}
 use mathlib.Core.Path.{_≡_, refl, sym, ap, _∙_}
 use mathlib.Core.List.{List, append-nil}
-use mathlib.Core.Option.{Option}
 use native.Mathlib.Omega.{arith}
 use lib.ListN.{length, replicate, length-replicate}
-use lib.IntN.{ℤ, pos}
+use lib.IntN.{ℤ}
 use Rattle.basics.proofs.Lists.{zeros}
 use Rattle.faults.specs.inner.Places.{atomPlaces, termPlaces, elementPlaces}
-use Rattle.faults.specs.Answer.{Answer, got, refused, bind}
+use Rattle.faults.specs.Answer.{got, bind}
 use Rattle.faults.specs.Values.{asStep}
 use Rattle.faults.specs.declared.Step.{Step}
 use Rattle.faults.specs.declared.Step.the-variants.{Good, Refused}
 use Rattle.faults.specs.declared.Refusal.{Refusal}
 use Rattle.aspif.specs.inner.Words.{word, after, linesFrom, linesOf}
 use Rattle.aspif.specs.inner.Kept.{Ahead}
-use Rattle.aspif.proofs.Walking.{ahead-next, lines-next}
-use Rattle.terms.specs.Terms.{Stated, differences}
-use Rattle.terms.specs.inner.Tables.{AllZero, envOf, entered, walk, heldAt, tabulated, gather}
-use Rattle.terms.specs.inner.Values.{asDifferences, Roomy, asTurn, Tables, Turned, Stored}
+use Rattle.aspif.proofs.Walking.{ahead-starts, ahead-next, lines-next}
+use Rattle.terms.specs.Terms.{differences}
+use Rattle.terms.specs.inner.Tables.{AllZero, envOf, walk, heldAt, tabulated, gather}
+use Rattle.terms.specs.inner.Values.{differenceWords, asDifferences, Roomy, Within, asTurn, oneMore, Tables, Turned, Stored}
 use Rattle.terms.specs.declared.lines.Turn.{Turn}
-use Rattle.terms.proofs.Turns.{gather-none, entered-none}
+use Rattle.terms.specs.declared.lines.Turn.the-variants as turn
+use Rattle.terms.proofs.Turns.{gather-none}
 use Rattle.terms.proofs.Known.{start-is}
 
 -- ---- slices that keep their lengths
@@ -34,7 +34,7 @@ pub record Kept (as′ xs ys : List ℕ) (ks : List ℤ) (as″ xs′ ys′ : Li
 pub kept-start : (as′ xs ys : List ℕ) (ks : List ℤ) → Kept as′ xs ys ks as′ xs ys ks
 kept-start as′ xs ys ks = record { of-atoms = refl; of-xs = refl; of-ys = refl; of-ks = refl }
 
-pub kept-room : {as′ xs ys as″ xs′ ys′ : List ℕ} {ks ks′ : List ℤ} → Kept as′ xs ys ks as″ xs′ ys′ ks′ → Roomy as′ xs ys ks → Roomy as″ xs′ ys′ ks′
+pub kept-room : {as′ xs ys as″ xs′ ys′ : List ℕ} {ks ks′ : List ℤ} → Kept as′ xs ys ks as″ xs′ ys′ ks′ → {w : ℕ} → Roomy w as′ xs ys ks → Roomy w as″ xs′ ys′ ks′
 kept-room k r =
     record { for-atoms = omega (arith, k .of-atoms, r .for-atoms); for-xs = omega (arith, k .of-xs, r .for-xs); for-ys = omega (arith, k .of-ys, r .for-ys); for-ks = omega (arith, k .of-ks, r .for-ks) }
 
@@ -44,7 +44,7 @@ pub record Underway (t : List ℕ) (n p left m : ℕ) (ts es ss as′ xs ys : Li
   pub answer : gather m (heldAt as′ xs ys ks) (walk (envOf t ts es ss) (linesFrom t p left)) ≡ differences (linesOf t n)
   pub ahead : Ahead t p left
   pub tables : Tables ts es ss
-  pub counted : m ≡ entered ss
+  pub counted : differenceWords * m ≤ p
 
 zero-table : (n : ℕ) → AllZero (replicate {A = ℕ} n 0)
 unfolding word
@@ -57,12 +57,15 @@ at-first t n as′ xs ys ks q =
       answer = gather-none (heldAt as′ xs ys ks) _ ∙ start-is t _ _ _ (linesOf t n) (zero-table termPlaces) (zero-table elementPlaces) (zero-table atomPlaces);
       ahead = q;
       tables = record { for-terms = length-replicate {A = ℕ} termPlaces 0; for-elements = length-replicate {A = ℕ} elementPlaces 0; for-seen = length-replicate {A = ℕ} atomPlaces 0 };
-      counted = entered-none _ (zero-table atomPlaces);
+      counted = omega arith;
     }
 
-same-count : (a : Answer (Option Stated)) (m k : ℕ) → got m ≡ bind a (λ d. got k) → m ≡ k
-same-count (got d) m k h = cc h
-same-count (refused i p) m k h = let z : _≡_ {A = ℕ} 0 1 = (cc) in absurd (omega arith)
+-- a turn takes as many words as it adds differences for
+counts : {t terms els seen terms′ els′ seen′ : List ℕ} {p : ℕ} (s : Turn) (m m′ : ℕ) → Turned t p terms els seen s terms′ els′ seen′ → got m′ ≡ bind (asTurn s) (λ d. got (oneMore m d))
+    → differenceWords * m ≤ p → differenceWords * m′ ≤ after t p
+counts turn.Goes m m′ h e l = let z : m′ ≡ m = cc in omega arith
+counts (turn.States a x y k) m m′ h e l = let z : m′ ≡ m + 1 = cc in omega (arith, h .lasts)
+counts (turn.Refused r) m m′ h e l = let z : _≡_ {A = ℕ} 0 1 = (cc) in absurd (omega arith)
 
 module _ {t : List ℕ} {n p left m : ℕ} {ts es ss as′ xs ys : List ℕ} {ks : List ℤ} (h : 0 < left) (u : Underway t n p left m ts es ss as′ xs ys ks)
     {s : Turn} {ts′ es′ ss′ : List ℕ} (took : Turned t p ts es ss s ts′ es′ ss′)
@@ -81,7 +84,7 @@ module _ {t : List ℕ} {n p left m : ℕ} {ts es ss as′ xs ys : List ℕ} {ks
         answer = rw q (rw e at turned);
         ahead = rw q (ahead-next t p left h (u .ahead) .1);
         tables = record { for-terms = lt ∙ u .tables .for-terms; for-elements = le ∙ u .tables .for-elements; for-seen = ls ∙ u .tables .for-seen };
-        counted = same-count (asTurn s) m′ (entered ss′) ((rw (e, u .counted) at (put .counts)) ∙ took .counts);
+        counted = rw q (counts s m m′ took (rw e at (put .counts)) (u .counted));
       }
 
 pub at-last : (t : List ℕ) (n p left m : ℕ) (ts es ss as′ xs ys : List ℕ) (ks : List ℤ) → left ≤ 0 → Underway t n p left m ts es ss as′ xs ys ks
@@ -89,10 +92,14 @@ pub at-last : (t : List ℕ) (n p left m : ℕ) (ts es ss as′ xs ys : List ℕ
 unfolding gather walk linesFrom
 at-last t n p left m ts es ss as′ xs ys ks h u = let e : left ≡ 0 = omega arith in sym (ap got (append-nil _)) ∙ (rw e at (u .answer))
 
--- ---- new slices
-
--- four new arrays are the room that `collect` requires
-pub new-room : Roomy (replicate {A = ℕ} atomPlaces 0) (replicate {A = ℕ} atomPlaces 0) (replicate {A = ℕ} atomPlaces 0) (replicate {A = ℤ} atomPlaces (pos 0))
-new-room =
-    let n : atomPlaces ≤ length (replicate {A = ℕ} atomPlaces 0) = omega (arith, length-replicate {A = ℕ} atomPlaces 0) in
-    record { for-atoms = n; for-xs = n; for-ys = n; for-ks = omega (arith, length-replicate {A = ℤ} atomPlaces (pos 0)) }
+-- what was found stands within the slices
+pub at-end : {t : List ℕ} {n p left m : ℕ} {ts es ss as′ xs ys as″ xs′ ys′ : List ℕ} {ks ks′ : List ℤ} → Underway t n p left m ts es ss as″ xs′ ys′ ks′
+    → Kept as′ xs ys ks as″ xs′ ys′ ks′ → Roomy (length t) as′ xs ys ks → Within m as″ xs′ ys′ ks′
+at-end {t} {p = p} {left} u k r =
+    let l = ahead-starts t p left (u .ahead) in
+    record {
+      in-atoms = omega (arith, l, u .counted, k .of-atoms, r .for-atoms);
+      in-xs = omega (arith, l, u .counted, k .of-xs, r .for-xs);
+      in-ys = omega (arith, l, u .counted, k .of-ys, r .for-ys);
+      in-ks = omega (arith, l, u .counted, k .of-ks, r .for-ks);
+    }

@@ -79,7 +79,7 @@ fn same(tape: &[u32], q: usize, n: u32, wanted: &[u8]) -> bool
 }
 
 // Whether a term is the string wanted.
-fn named(tape: &[u32], terms: &[usize], u: TermNo, wanted: &[u8]) -> bool
+fn named(tape: &[u32], terms: &[u32], u: TermNo, wanted: &[u8]) -> bool
     requires { ⌜ length (now wanted) ≤ 8 ⌝ }
     ensures { λ r. ⌜ r ≡ isString (now (wanted .entry)) (lookIn (now (tape .entry)) (now (terms .entry)) (u .0)) ⌝ }
 {
@@ -107,7 +107,7 @@ pub fn is_term(t: u32) -> bool
 }
 
 // Whether a compound's t is the string `-`.
-fn is_minus(tape: &[u32], terms: &[usize], t: u32) -> bool
+fn is_minus(tape: &[u32], terms: &[u32], t: u32) -> bool
     ensures { λ r. ⌜ r ≡ isMinus (lookIn (now (tape .entry)) (now (terms .entry))) (integerOf t) ⌝ }
 {
     if is_term(t) {
@@ -136,7 +136,7 @@ fn negated(w: u32) -> i32
 }
 
 // A numeric term, negated.
-fn against(tape: &[u32], terms: &[usize], u: TermNo) -> Limit
+fn against(tape: &[u32], terms: &[u32], u: TermNo) -> Limit
     ensures { λ r. ⌜ asLimit r ≡ opposite (lookIn (now (tape .entry)) (now (terms .entry)) (u .0)) ⌝ }
 {
     let e = term_entry(terms, u);
@@ -153,7 +153,7 @@ fn against(tape: &[u32], terms: &[usize], u: TermNo) -> Limit
 }
 
 // Whether the term of an entry is a compound of `-` with `count` arguments.
-fn minus_of(tape: &[u32], terms: &[usize], e: usize, count: u32) -> bool
+fn minus_of(tape: &[u32], terms: &[u32], e: usize, count: u32) -> bool
     ensures { λ r. ⌜ r ≡ minusOf (lookIn (now (tape .entry)) (now (terms .entry))) count (termOn (now (tape .entry)) e) ⌝ }
 {
     if e == 0 {
@@ -173,7 +173,7 @@ fn minus_of(tape: &[u32], terms: &[usize], e: usize, count: u32) -> bool
 }
 
 // The bound that a term gives.
-fn bound(tape: &[u32], terms: &[usize], u: TermNo) -> Limit
+fn bound(tape: &[u32], terms: &[u32], u: TermNo) -> Limit
     ensures { λ r. ⌜ asLimit r ≡ boundOf (lookIn (now (tape .entry)) (now (terms .entry))) (lookIn (now (tape .entry)) (now (terms .entry)) (u .0)) ⌝ }
 {
     let e = term_entry(terms, u);
@@ -194,7 +194,7 @@ fn bound(tape: &[u32], terms: &[usize], u: TermNo) -> Limit
 }
 
 // The two sides that a term has.
-fn pair(tape: &[u32], terms: &[usize], u: TermNo) -> Sides
+fn pair(tape: &[u32], terms: &[u32], u: TermNo) -> Sides
     ensures { λ r. ⌜ asSides r ≡ pairOf (lookIn (now (tape .entry)) (now (terms .entry))) (lookIn (now (tape .entry)) (now (terms .entry)) (u .0)) ⌝ }
 {
     let e = term_entry(terms, u);
@@ -208,7 +208,7 @@ fn pair(tape: &[u32], terms: &[usize], u: TermNo) -> Sides
 }
 
 // The two sides in an element.
-fn pair_in(tape: &[u32], terms: &[usize], elements: &[usize], v: ElementNo) -> Sides
+fn pair_in(tape: &[u32], terms: &[u32], elements: &[u32], v: ElementNo) -> Sides
     ensures { λ r. ⌜ asSides r ≡ pairIn (lookIn (now (tape .entry)) (now (terms .entry))) (elementsIn (now (tape .entry)) (now (elements .entry)) (v .0)) ⌝ }
 {
     let e = element_entry(elements, v);
@@ -233,7 +233,7 @@ fn pair_in(tape: &[u32], terms: &[usize], elements: &[usize], v: ElementNo) -> S
 }
 
 // The difference of the element v, with the term u as its bound.
-fn inside(tape: &[u32], terms: &[usize], elements: &[usize], v: ElementNo, u: TermNo) -> Said
+fn inside(tape: &[u32], terms: &[u32], elements: &[u32], v: ElementNo, u: TermNo) -> Said
     ensures { λ r. ⌜ asSaid r ≡ joined (pairIn (lookIn (now (tape .entry)) (now (terms .entry))) (elementsIn (now (tape .entry)) (now (elements .entry)) (v .0))) (boundOf (lookIn (now (tape .entry)) (now (terms .entry))) (lookIn (now (tape .entry)) (now (terms .entry)) (u .0))) ⌝ }
 {
     let s = pair_in(tape, terms, elements, v);
@@ -248,7 +248,7 @@ fn inside(tape: &[u32], terms: &[usize], elements: &[usize], v: ElementNo, u: Te
 }
 
 // The difference that the theory atom at q states.
-pub fn difference(tape: &[u32], q: usize, terms: &[usize], elements: &[usize]) -> Said
+pub fn difference(tape: &[u32], q: usize, terms: &[u32], elements: &[u32]) -> Said
     ensures { λ r. ⌜ asSaid r ≡ statedOn (now (tape .entry)) (now (terms .entry)) (now (elements .entry)) q ⌝ }
 {
     let kind = word_at(tape, q, KIND);

@@ -1,10 +1,13 @@
 // Terms and theory atoms: refusal 6, or what the difference atoms say.
 ghost use mathlib.Core.Path.{_≡_};
+ghost use Prim.Native.Nat.{_≤_};
+ghost use lib.ListN.{length};
+ghost use Rattle.faults.specs.Limits.{longestText};
 ghost use Rattle.aspif.specs.inner.Words.{linesOf};
 ghost use Rattle.aspif.specs.inner.Kept.{Ahead};
 ghost use Rattle.terms.specs.Terms.{differences};
 ghost use Rattle.terms.specs.inner.Tables.{heldAt};
-ghost use Rattle.terms.specs.inner.Values.{asDifferences, Roomy, RoomFor, Stored};
+ghost use Rattle.terms.specs.inner.Values.{asDifferences, Roomy, RoomFor, Stored, StatedWithin};
 use crate::lines::Turn;
 use crate::lines::take_line;
 use aspif::walk::after_at;
@@ -27,7 +30,7 @@ fn store(
     ks: &mut [i32],
     n: usize,
 ) -> Step
-    requires { ⌜ Roomy (now atoms) (now xs) (now ys) (now ks) × RoomFor s n ⌝ }
+    requires { ⌜ RoomFor s n (now atoms) (now xs) (now ys) (now ks) ⌝ }
     ensures { λ r. ⌜ Stored s n (heldAt (now (atoms .entry)) (now (xs .entry)) (now (ys .entry)) (now (ks .entry))) r (heldAt (now (atoms .exit)) (now (xs .exit)) (now (ys .exit)) (now (ks .exit))) ⌝ }
 {
     match s {
@@ -52,13 +55,14 @@ pub fn collect(
     ys: &mut [u32],
     ks: &mut [i32],
 ) -> Step
-    requires { ⌜ Ahead (now tape) 0 n ⌝ }
-    requires { ⌜ Roomy (now atoms) (now xs) (now ys) (now ks) ⌝ }
+    requires { ⌜ Ahead (now tape) 0 n × (length (now tape) ≤ longestText) ⌝ }
+    requires { ⌜ Roomy (length (now tape)) (now atoms) (now xs) (now ys) (now ks) ⌝ }
     ensures { λ r. ⌜ asDifferences r (now (atoms .exit)) (now (xs .exit)) (now (ys .exit)) (now (ks .exit)) ≡ differences (linesOf (now (tape .entry)) n) ⌝ }
+    ensures { λ r. ⌜ StatedWithin r (now (atoms .exit)) (now (xs .exit)) (now (ys .exit)) (now (ks .exit)) ⌝ }
 {
-    let mut terms = [0usize; TERM_PLACES];
-    let mut elements = [0usize; ELEMENT_PLACES];
-    let mut seen = [0usize; ATOM_PLACES];
+    let mut terms = [0u32; TERM_PLACES];
+    let mut elements = [0u32; ELEMENT_PLACES];
+    let mut seen = [0u8; ATOM_PLACES];
     let mut p = 0;
     let mut left = n;
     let mut m = 0;

@@ -4,6 +4,7 @@ ghost use mathlib.Core.List.{List};
 ghost use Prim.Native.Nat.{ℕ, _+_, _≤_};
 ghost use lib.ListN.{length};
 ghost use Rattle.faults.specs.Answer.{refused};
+ghost use Rattle.faults.specs.Limits.{longestText};
 ghost use Rattle.faults.specs.inner.Places.{termPlaces, elementPlaces, atomPlaces, farPlace};
 ghost use Rattle.aspif.specs.Statements.{theoryIn};
 ghost use Rattle.aspif.specs.Grammar.{integerOf};
@@ -16,9 +17,9 @@ ghost use Rattle.terms.specs.declared.lines.Role.the-variants as role;
 use crate::difference::Said;
 use crate::difference::difference;
 use crate::difference::is_term;
-use crate::tables::atom_entry;
 use crate::tables::element_entry;
-use crate::tables::put_atom;
+use crate::tables::enter_atom;
+use crate::tables::is_entered;
 use crate::tables::put_element;
 use crate::tables::put_term;
 use crate::tables::term_entry;
@@ -87,7 +88,7 @@ fn role_of(kind: u32) -> Role
 }
 
 // Whether the n terms from `from` on are all defined.
-fn all_known(tape: &[u32], from: usize, n: u32, terms: &[usize]) -> bool
+fn all_known(tape: &[u32], from: usize, n: u32, terms: &[u32]) -> bool
     requires { ⌜ from ≤ farPlace ⌝ }
     ensures { λ r. ⌜ r ≡ allDefined (lookIn (now (tape .entry)) (now (terms .entry))) (wordsFrom (now (tape .entry)) from n) ⌝ }
 {
@@ -106,7 +107,7 @@ fn all_known(tape: &[u32], from: usize, n: u32, terms: &[usize]) -> bool
 }
 
 // Whether a compound's t is defined, where it is a term number.
-fn functor_known(tape: &[u32], terms: &[usize], t: u32) -> bool
+fn functor_known(tape: &[u32], terms: &[u32], t: u32) -> bool
     ensures { λ r. ⌜ r ≡ functorKnown (lookIn (now (tape .entry)) (now (terms .entry))) (integerOf t) ⌝ }
 {
     if is_term(t) {
@@ -117,7 +118,7 @@ fn functor_known(tape: &[u32], terms: &[usize], t: u32) -> bool
 }
 
 // Whether the statement at q, which defines a term, is faulty.
-fn bad_term(tape: &[u32], q: usize, terms: &[usize]) -> bool
+fn bad_term(tape: &[u32], q: usize, terms: &[u32]) -> bool
     requires { ⌜ (q ≤ length (now tape)) × (roleOf (word (now tape) q) ≡ role.Term) ⌝ }
     ensures { λ r. ⌜ ((els seen : List ℕ) → r ≡ faulty (envOf (now (tape .entry)) (now (terms .entry)) els seen) (theoryIn (saysAt (now (tape .entry)) q))) ⌝ }
 {
@@ -140,7 +141,7 @@ fn bad_term(tape: &[u32], q: usize, terms: &[usize]) -> bool
 }
 
 // Whether the statement at q, which collects an element, is faulty.
-fn bad_element(tape: &[u32], q: usize, terms: &[usize], elements: &[usize]) -> bool
+fn bad_element(tape: &[u32], q: usize, terms: &[u32], elements: &[u32]) -> bool
     requires { ⌜ (q ≤ length (now tape)) × (roleOf (word (now tape) q) ≡ role.Element) ⌝ }
     ensures { λ r. ⌜ ((seen : List ℕ) → r ≡ faulty (envOf (now (tape .entry)) (now (terms .entry)) (now (elements .entry)) seen) (theoryIn (saysAt (now (tape .entry)) q))) ⌝ }
 {
@@ -166,8 +167,8 @@ fn refuse(tape: &[u32], p: usize) -> Turn
 }
 
 // Takes the line at p, which defines a term.
-fn take_term(tape: &[u32], p: usize, terms: &mut [usize]) -> Turn
-    requires { ⌜ LineOn (now tape) p × (roleOf (word (now tape) (p + 2)) ≡ role.Term) × (length (now terms) ≡ termPlaces) ⌝ }
+fn take_term(tape: &[u32], p: usize, terms: &mut [u32]) -> Turn
+    requires { ⌜ LineOn (now tape) p × (roleOf (word (now tape) (p + 2)) ≡ role.Term) × (length (now terms) ≡ termPlaces) × (length (now tape) ≤ longestText) ⌝ }
     ensures { λ r. ⌜ ((els seen : List ℕ) → Turned (now (tape .entry)) p (now (terms .entry)) els seen r (now (terms .exit)) els seen) ⌝ }
 {
     let q = p + SAYS;
@@ -175,14 +176,14 @@ fn take_term(tape: &[u32], p: usize, terms: &mut [usize]) -> Turn
         return refuse(tape, p);
     }
     let u = term_at(tape, q, OF);
-    let mark = q + 1;
+    let mark = (q + 1) as u32;
     put_term(terms, u, mark);
     Turn::Goes
 }
 
 // Takes the line at p, which collects an element.
-fn take_element(tape: &[u32], p: usize, terms: &[usize], elements: &mut [usize]) -> Turn
-    requires { ⌜ LineOn (now tape) p × (roleOf (word (now tape) (p + 2)) ≡ role.Element) × (length (now elements) ≡ elementPlaces) ⌝ }
+fn take_element(tape: &[u32], p: usize, terms: &[u32], elements: &mut [u32]) -> Turn
+    requires { ⌜ LineOn (now tape) p × (roleOf (word (now tape) (p + 2)) ≡ role.Element) × (length (now elements) ≡ elementPlaces) × (length (now tape) ≤ longestText) ⌝ }
     ensures { λ r. ⌜ ((seen : List ℕ) → Turned (now (tape .entry)) p (now (terms .entry)) (now (elements .entry)) seen r (now (terms .entry)) (now (elements .exit)) seen) ⌝ }
 {
     let q = p + SAYS;
@@ -190,34 +191,26 @@ fn take_element(tape: &[u32], p: usize, terms: &[usize], elements: &mut [usize])
         return refuse(tape, p);
     }
     let v = element_at(tape, q, OF);
-    let mark = q + 1;
+    let mark = (q + 1) as u32;
     put_element(elements, v, mark);
     Turn::Goes
 }
 
 // Takes the line at p, which states a theory atom; one that uses what is not defined is no difference.
-fn take_atom(
-    tape: &[u32],
-    p: usize,
-    terms: &[usize],
-    elements: &[usize],
-    seen: &mut [usize],
-) -> Turn
+fn take_atom(tape: &[u32], p: usize, terms: &[u32], elements: &[u32], seen: &mut [u8]) -> Turn
     requires { ⌜ LineOn (now tape) p × (roleOf (word (now tape) (p + 2)) ≡ role.Atom) × (length (now seen) ≡ atomPlaces) ⌝ }
     ensures { λ r. ⌜ Turned (now (tape .entry)) p (now (terms .entry)) (now (elements .entry)) (now (seen .entry)) r (now (terms .entry)) (now (elements .entry)) (now (seen .exit)) ⌝ }
 {
     let q = p + SAYS;
     let a = atom_at(tape, q, OF);
-    let earlier = atom_entry(seen, a);
-    if earlier != 0 {
+    if is_entered(seen, a) {
         return refuse(tape, p);
     }
     let d = difference(tape, q, terms, elements);
     let Said::Is(x, y, k) = d else {
         return refuse(tape, p);
     };
-    let mark = q + 1;
-    put_atom(seen, a, mark);
+    enter_atom(seen, a);
     Turn::States(a, x, y, k)
 }
 
@@ -225,11 +218,11 @@ fn take_atom(
 pub fn take_line(
     tape: &[u32],
     p: usize,
-    terms: &mut [usize],
-    elements: &mut [usize],
-    seen: &mut [usize],
+    terms: &mut [u32],
+    elements: &mut [u32],
+    seen: &mut [u8],
 ) -> Turn
-    requires { ⌜ LineOn (now tape) p × Tables (now terms) (now elements) (now seen) ⌝ }
+    requires { ⌜ LineOn (now tape) p × Tables (now terms) (now elements) (now seen) × (length (now tape) ≤ longestText) ⌝ }
     ensures { λ r. ⌜ Turned (now (tape .entry)) p (now (terms .entry)) (now (elements .entry)) (now (seen .entry)) r (now (terms .exit)) (now (elements .exit)) (now (seen .exit)) ⌝ }
 {
     let kind = word_at(tape, p, SAYS);

@@ -1,9 +1,10 @@
 -- Inner: a candidate as a bitmap. Assumes nothing.
-use Prim.Native.Nat.{ℕ}
+use Prim.Native.Nat.{ℕ, _+_, _≤_}
 use mathlib.Core.Path.{_≡_}
 use mathlib.Core.List.{List}
 use lib.ListN.{length, getD}
-use Rattle.basics.specs.inner.Bitmaps.{marks}
+use Rattle.basics.specs.inner.Bitmaps.{marks, NoneFrom}
+use Rattle.faults.specs.Limits.{lastAtom}
 use Rattle.faults.specs.inner.Places.{atomPlaces}
 
 -- the atoms that a bitmap holds, ascending
@@ -14,3 +15,9 @@ atomsOf x = marks 0 x
 pub record Blank (x : List ℕ) : Type 0 where
   pub places : length x ≡ atomPlaces
   pub clear : (a : ℕ) → getD x a 0 ≡ 0
+
+-- one in which no atom above the last is marked
+pub record EndsAt (last : ℕ) (x : List ℕ) : Type 0 where
+  pub places : length x ≡ atomPlaces
+  pub small : last ≤ lastAtom
+  pub none : NoneFrom (last + 1) x

@@ -10,7 +10,7 @@ use Rattle.faults.specs.declared.Step.the-variants.{Good, Refused}
 use Rattle.aspif.specs.Statements.{Line}
 use Rattle.aspif.specs.inner.Words.{allWords}
 use Rattle.aspif.specs.inner.Kept.{Ahead}
-use Rattle.aspif.specs.inner.Bitmap.{atomsOf}
+use Rattle.aspif.specs.inner.Bitmap.{atomsOf, EndsAt}
 use Rattle.aspif.specs.declared.candidate.Marked.{Marked}
 use Rattle.aspif.specs.declared.candidate.Marked.the-variants as marked
 
@@ -36,5 +36,10 @@ tapedIf (Refused r) t = Unit {0}
 
 -- with what the bitmap holds then
 abbrev pub asMarked : Marked → List ℕ → Answer (List ℕ)
-asMarked marked.Done x = got (atomsOf x)
+asMarked (marked.Done a) x = got (atomsOf x)
 asMarked (marked.Refused r) x = refused (number (r .kind)) (r .place)
+
+-- no atom above the last is marked
+abbrev pub MarkedTo : Marked → List ℕ → Type 0
+MarkedTo (marked.Done a) x = EndsAt (a .0) x
+MarkedTo (marked.Refused r) x = Unit {0}

@@ -1,20 +1,27 @@
 -- `facts`: the places filled so far hold the external atoms in x. Assumes nothing.
-use Prim.Native.Nat.{_-_}
+use Prim.Native.Nat.{_-_, _≤_}
 use native.Mathlib.Omega.{arith}
 use borrow.Author.Needs.{needs}
+use Rattle.basics.specs.inner.Bitmaps.{NoneFrom}
 use Rattle.faults.specs.inner.Places.{atomPlaces}
 use Rattle.stable.proofs.Filling.{Filled, start, fill, end}
 use Rattle.stable.proofs.facts.Statement.{statement}
 use Rattle.stable.proofs.facts.Tie as tie
 
 abbrev Inv-loop : tie.InvT-loop
-Inv-loop ext x found₀ a₀ found a = Filled ext x found a
+Inv-loop ext x found₀ top a₀ found a = Filled ext x found a × (top ≤ atomPlaces) × NoneFrom top x
 
 abbrev μ-loop : tie.MeasureT-loop
-μ-loop ext x found₀ a₀ found a = atomPlaces - a
+μ-loop ext x found₀ top a₀ found a = top - a
+
+cast-top : tie.Need-cast-top Inv-loop μ-loop
+cast-top c = search needs
+
+add-top : tie.Need-add-top Inv-loop μ-loop
+add-top c = omega (arith, c .before .before .before .before .pre .1 .0 .small)
 
 loop-holds : tie.Need-loop-holds Inv-loop μ-loop
-loop-holds c = start (c .before .before .before .pre .1 .1)
+loop-holds c = (start (c .before .before .before .before .pre .1 .1), omega (arith, c .before .before .before .before .pre .1 .0 .small), c .before .before .before .before .pre .1 .0 .none)
 
 shared-slice-read-both : tie.Need-shared-slice-read-both Inv-loop μ-loop
 shared-slice-read-both c = omega arith
@@ -35,13 +42,13 @@ loop-less : tie.Need-loop-less Inv-loop μ-loop
 loop-less c = omega arith
 
 loop-again : tie.Need-loop-again Inv-loop μ-loop
-loop-again c = fill (c .before .before .before .before .loop .inv) (c .both .result) (c .before .before .before .loop-test .taken) (c .both .ensures)
+loop-again c = (fill (c .before .before .before .before .loop .inv .0) (c .both .result) (omega (arith, c .before .before .before .before .loop .inv .1)) (c .both .ensures), c .before .before .before .before .loop .inv .1, c .before .before .before .before .loop .inv .2)
 
 same-length : tie.Need-same-length Inv-loop μ-loop
 same-length c = omega arith
 
 returns : tie.Need-returns Inv-loop μ-loop
-returns c = end (c .before .loop .inv) (c .before .before .before .before .before .pre .0) (c .loop-test .left)
+returns c = end (c .before .loop .inv .0) (c .before .loop .inv .2) (c .loop-test .left)
 
 pub facts-spec : {M : Type 1} → statement M
 facts-spec =
@@ -49,6 +56,8 @@ facts-spec =
     (tie.spec
     Inv-loop
     μ-loop
+    cast-top
+    add-top
     loop-holds
     shared-slice-read-both
     shared-slice-read-both-2

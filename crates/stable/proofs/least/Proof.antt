@@ -20,10 +20,10 @@ facts-requires : tie.Need-facts-requires Inv-loop μ-loop
 facts-requires c κs = search needs
 
 loop-holds : tie.Need-loop-holds Inv-loop μ-loop
-loop-holds c = first (c .before .before .facts .kept .1 .1 .0 ∙ c .before .before .before .before .before .before .before .before .before .pre .1 .1 .1) (c .before .before .facts .ensures)
+loop-holds c = first (c .before .before .facts .kept .1 .1 .1 .0 ∙ c .before .before .before .before .before .before .before .before .before .pre .1 .1 .1 .places) (c .before .before .facts .ensures)
 
 round-requires : tie.Need-round-requires Inv-loop μ-loop
-round-requires c κs = (c .before .before .before .before .before .before .before .before .before .before .before .before .pre .0, (c .before .before .before .before .before .before .before .before .before .before .before .before .pre .1 .1 .0, c .before .before .loop .inv .long))
+round-requires c κs = (c .before .before .before .before .before .before .before .before .before .before .before .before .pre .0, (c .before .before .before .before .before .before .before .before .before .before .before .before .pre .1 .1 .0 .places, c .before .before .loop .inv .long))
 
 loop-less : tie.Need-loop-less Inv-loop μ-loop
 loop-less c = less (c .before .before .before .before .before .loop .inv) (c .before .before .before .before .loop-test .taken) (c .before .before .round .kept .1 .1 .1 .1 .0) (c .before .before .round .ensures)
@@ -32,7 +32,7 @@ loop-again : tie.Need-loop-again Inv-loop μ-loop
 loop-again c = again (c .before .before .before .before .before .loop .inv) (c .before .before .round .kept .1 .1 .1 .1 .0) (c .before .before .round .ensures)
 
 same-length : tie.Need-same-length Inv-loop μ-loop
-same-length c = omega (arith, c .before .loop .inv .long, c .before .before .before .before .before .before .before .before .before .before .before .pre .1 .1 .1)
+same-length c = omega (arith, c .before .loop .inv .long, c .before .before .before .before .before .before .before .before .before .before .before .pre .1 .1 .1 .places)
 
 returns : tie.Need-returns Inv-loop μ-loop
 returns c = end-least (c .before .loop .inv) (c .loop-test .left)

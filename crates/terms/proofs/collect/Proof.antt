@@ -1,8 +1,8 @@
 -- `collect`: what is gathered, and what the lines to come give, is the answer; each turn takes one line.
 use mathlib.Core.Path.{_∙_}
-use Rattle.aspif.proofs.Walking.{ahead-starts, ahead-next}
+use Rattle.aspif.proofs.Walking.{ahead-starts, ahead-next, after-inside}
 use Rattle.terms.proofs.Turns.{room-left}
-use Rattle.terms.proofs.Walks.{Underway, Kept, kept-start, kept-room, at-first, at-refusal, at-next, at-last}
+use Rattle.terms.proofs.Walks.{Underway, Kept, kept-start, kept-room, at-first, at-refusal, at-next, at-last, at-end}
 use borrow.Author.Needs.{needs}
 use Rattle.terms.proofs.collect.Statement.{statement}
 use Rattle.terms.proofs.collect.Tie as tie
@@ -14,7 +14,7 @@ abbrev μ-loop : tie.MeasureT-loop
 μ-loop tape n atoms₀ xs₀ ys₀ ks₀ terms₀ elements₀ seen₀ p₀ left₀ m₀ atoms xs ys ks terms elements seen p left m = left
 
 loop-holds : tie.Need-loop-holds Inv-loop μ-loop
-loop-holds c = (at-first _ _ _ _ _ _ (c .before .before .before .before .pre .0), kept-start _ _ _ _)
+loop-holds c = (at-first _ _ _ _ _ _ (c .before .before .before .before .pre .0 .0), kept-start _ _ _ _)
 
 slice-aggregate-take-line : tie.Need-slice-aggregate-take-line Inv-loop μ-loop
 slice-aggregate-take-line c = search needs
@@ -26,13 +26,15 @@ slice-aggregate-take-line-3 : tie.Need-slice-aggregate-take-line-3 Inv-loop μ-l
 slice-aggregate-take-line-3 c = search needs
 
 take-line-requires : tie.Need-take-line-requires Inv-loop μ-loop
-take-line-requires c κs = (ahead-next _ _ _ (c .before .before .before .loop-test .taken) (c .before .before .before .before .loop .inv .0 .ahead) .0, c .before .before .before .before .loop .inv .0 .tables)
+take-line-requires c κs =
+    let u = c .before .before .before .before .loop .inv .0 in
+    (ahead-next _ _ _ (c .before .before .before .loop-test .taken) (u .ahead) .0, u .tables, c .before .before .before .before .before .before .before .before .before .pre .0 .1)
 
 store-requires : tie.Need-store-requires Inv-loop μ-loop
 store-requires c κs =
     let i = c .before .before .before .before .before .before .before .before .before .before .before .before .loop .inv in
     let t = c .before .before .before .before .before .before .before .take-line in
-    (kept-room (i .1) (c .before .before .before .before .before .before .before .before .before .before .before .before .before .before .before .before .before .pre .1), room-left _ _ (t .ensures) (i .0 .counted) (t .kept .1 .1 .1 .1 .0 ∙ i .0 .tables .for-seen))
+    room-left _ _ (t .ensures) (i .0 .counted) (after-inside (ahead-next _ _ _ (c .before .before .before .before .before .before .before .before .before .before .before .loop-test .taken) (i .0 .ahead) .0)) (kept-room (i .1) (c .before .before .before .before .before .before .before .before .before .before .before .before .before .before .before .before .before .pre .1))
 
 enum-known-r : tie.Need-enum-known-r Inv-loop μ-loop
 enum-known-r c = search needs
@@ -55,7 +57,8 @@ same-length-4 c = search needs
 returns : tie.Need-returns Inv-loop μ-loop
 returns c =
     let s = c .before .before .before .before .before .before .before .before .before .store in
-    at-refusal (c .before .before .before .before .before .before .before .before .before .before .before .before .before .before .before .before .before .before .before .before .before .loop-test .taken) (c .before .before .before .before .before .before .before .before .before .before .before .before .before .before .before .before .before .before .before .before .before .before .loop .inv .0) (c .before .before .before .before .before .before .before .before .before .before .before .before .before .before .before .before .before .take-line .ensures) (s .last .1 .0) (s .last .1 .1 .0) (s .last .1 .1 .1 .0) (s .last .1 .1 .1 .1 .0) _ (s .ensures) _ (c .enum-told .given .1)
+    let told = c .enum-told .given .1 in
+    (at-refusal (c .before .before .before .before .before .before .before .before .before .before .before .before .before .before .before .before .before .before .before .before .before .loop-test .taken) (c .before .before .before .before .before .before .before .before .before .before .before .before .before .before .before .before .before .before .before .before .before .before .loop .inv .0) (c .before .before .before .before .before .before .before .before .before .before .before .before .before .before .before .before .before .take-line .ensures) (s .last .1 .0) (s .last .1 .1 .0) (s .last .1 .1 .1 .0) (s .last .1 .1 .1 .1 .0) _ (s .ensures) _ told, rw told tt)
 
 after-at-requires : tie.Need-after-at-requires Inv-loop μ-loop
 after-at-requires c κs = ahead-starts _ _ _ (c .before .before .before .before .before .before .before .before .before .before .before .before .before .before .before .before .before .before .before .before .before .before .before .loop .inv .0 .ahead)
@@ -86,7 +89,7 @@ same-length-8 : tie.Need-same-length-8 Inv-loop μ-loop
 same-length-8 c = search needs
 
 returns-2 : tie.Need-returns-2 Inv-loop μ-loop
-returns-2 c = at-last _ _ _ _ _ _ _ _ _ _ _ _ (c .loop-test .left) (c .before .loop .inv .0)
+returns-2 c = (at-last _ _ _ _ _ _ _ _ _ _ _ _ (c .loop-test .left) (c .before .loop .inv .0), at-end (c .before .loop .inv .0) (c .before .loop .inv .1) (c .before .before .before .before .before .before .pre .1))
 
 pub collect-spec : {M : Type 1} → statement M
 collect-spec =

@@ -15,31 +15,31 @@ enum-known-s : tie.Need-enum-known-s
 enum-known-s c = search needs
 
 mul-atoms : tie.Need-mul-atoms
-mul-atoms c = omega (arith, (rw (c .before .s .given .1) at (c .before .before .before .pre .1)))
+mul-atoms c = omega (arith, (rw (c .before .s .given .1) at (c .before .before .before .pre)) .in-atoms)
 
 slice-write-atoms : tie.Need-slice-write-atoms
-slice-write-atoms c = omega (arith, c .before .before .before .pre .0 .for-atoms, (rw (c .before .s .given .1) at (c .before .before .before .pre .1)))
+slice-write-atoms c = omega (arith, (rw (c .before .s .given .1) at (c .before .before .before .pre)) .in-atoms)
 
 mul-xs : tie.Need-mul-xs
-mul-xs c = omega (arith, (rw (c .before .s .given .1) at (c .before .before .before .pre .1)))
+mul-xs c = omega (arith, (rw (c .before .s .given .1) at (c .before .before .before .pre)) .in-xs)
 
 slice-write-xs : tie.Need-slice-write-xs
-slice-write-xs c = omega (arith, c .before .before .before .pre .0 .for-xs, (rw (c .before .s .given .1) at (c .before .before .before .pre .1)))
+slice-write-xs c = omega (arith, (rw (c .before .s .given .1) at (c .before .before .before .pre)) .in-xs)
 
 mul-ys : tie.Need-mul-ys
-mul-ys c = omega (arith, (rw (c .before .s .given .1) at (c .before .before .before .pre .1)))
+mul-ys c = omega (arith, (rw (c .before .s .given .1) at (c .before .before .before .pre)) .in-ys)
 
 slice-write-ys : tie.Need-slice-write-ys
-slice-write-ys c = omega (arith, c .before .before .before .pre .0 .for-ys, (rw (c .before .s .given .1) at (c .before .before .before .pre .1)))
+slice-write-ys c = omega (arith, (rw (c .before .s .given .1) at (c .before .before .before .pre)) .in-ys)
 
 mul-k : tie.Need-mul-k
-mul-k c = omega (arith, (rw (c .before .s .given .1) at (c .before .before .before .pre .1)))
+mul-k c = omega (arith, (rw (c .before .s .given .1) at (c .before .before .before .pre)) .in-ks)
 
 slice-set-from-k : tie.Need-slice-set-from-k
-slice-set-from-k c = omega (arith, c .before .before .before .pre .0 .for-ks, (rw (c .before .s .given .1) at (c .before .before .before .pre .1)))
+slice-set-from-k c = omega (arith, (rw (c .before .s .given .1) at (c .before .before .before .pre)) .in-ks)
 
 add-t13 : tie.Need-add-t13
-add-t13 c = omega (arith, (rw (c .before .s .given .1) at (c .before .before .before .pre .1)))
+add-t13 c = omega (arith, (rw (c .before .s .given .1) at (c .before .before .before .pre)) .in-ks)
 
 enum-known-s-2 : tie.Need-enum-known-s-2
 enum-known-s-2 c = search needs
@@ -61,12 +61,11 @@ same-length-4 c = search needs
 
 returns-2 : tie.Need-returns-2
 returns-2 c =
-    let room = c .before .before .before .pre .0 in
-    let left = (rw (c .before .s .given .1) at (c .before .before .before .pre .1)) in
+    let room = (rw (c .before .s .given .1) at (c .before .before .before .pre)) in
     let d = c .before .s .given .0 in
     let k = d .1 .1 .1 .0 in
     let args = c .before .before .before .args in
-    stored-one (args .atoms .now) (args .xs .now) (args .ys .now) (args .ks .now) (args .n) (d .0 .0) (d .1 .0 .0) (d .1 .1 .0 .0) (toZ w32 (ofZ w32 k)) (omega (arith, room .for-atoms)) (omega (arith, room .for-xs)) (omega (arith, room .for-ys)) (omega (arith, room .for-ks)) (args .s) (rw (c .before .s .given .1, back {z = k} (record { sfits = c .known-told .given .1 .1 .1 .0 .1 })))
+    stored-one (args .atoms .now) (args .xs .now) (args .ys .now) (args .ks .now) (args .n) (d .0 .0) (d .1 .0 .0) (d .1 .1 .0 .0) (toZ w32 (ofZ w32 k)) (omega (arith, room .in-atoms)) (omega (arith, room .in-xs)) (omega (arith, room .in-ys)) (omega (arith, room .in-ks)) (args .s) (rw (c .before .s .given .1, back {z = k} (record { sfits = c .known-told .given .1 .1 .1 .0 .1 })))
 
 returns-3 : tie.Need-returns-3
 returns-3 c = stored-refused _ _ _ _ (c .before .s2 .given .1)

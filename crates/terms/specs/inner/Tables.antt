@@ -100,11 +100,6 @@ statedOn t terms elements q = differenceIn (lookIn t terms) (elementsIn t elemen
 pub record AllZero (l : List ℕ) : Type 0 where
   pub zero-at : (i : ℕ) → word l i ≡ 0
 
--- how many numbers of a table are entered
-unfoldable pub entered : List ℕ → ℕ
-entered [] = 0
-entered (x ∷ l) = pick (eqb x 0) 0 1 + entered l
-
 -- ---- the walk over the lines, with what was defined on the way
 
 -- f, but a at i

@@ -1,5 +1,5 @@
 -- Inner: what each case of an answer stands for, and what one line's turn does. Assumes nothing.
-use Prim.Native.Nat.{ℕ, _+_, _≤_, _<_}
+use Prim.Native.Nat.{ℕ, _+_, _*_, _≤_}
 use mathlib.Core.Path.{_≡_}
 use mathlib.Core.List.{List, _∷_}
 use mathlib.Core.Option.{Option, some, none}
@@ -11,10 +11,10 @@ use Rattle.faults.specs.Values.{number, asStep}
 use Rattle.faults.specs.declared.Step.{Step}
 use Rattle.faults.specs.declared.Step.the-variants.{Good, Refused}
 use Rattle.aspif.specs.Statements.{Line}
-use Rattle.aspif.specs.inner.Words.{lineAt}
+use Rattle.aspif.specs.inner.Words.{lineAt, after}
 use Rattle.diffs.specs.Diff.{Diff}
 use Rattle.terms.specs.Terms.{Pair, Stated, more}
-use Rattle.terms.specs.inner.Tables.{envOf, entered, walk, heldAt, tabulated, gather}
+use Rattle.terms.specs.inner.Tables.{envOf, walk, heldAt, tabulated, gather}
 use Rattle.terms.specs.declared.difference.Limit.{Limit}
 use Rattle.terms.specs.declared.difference.Sides.{Sides}
 use Rattle.terms.specs.declared.difference.Said.{Said}
@@ -44,12 +44,28 @@ abbrev pub asDifferences : Step → (atoms xs ys : List ℕ) → List ℤ → An
 asDifferences (Good n) atoms xs ys ks = got (tabulated n (heldAt atoms xs ys ks))
 asDifferences (Refused r) atoms xs ys ks = refused (number (r .kind)) (r .place)
 
--- room for a difference of each atom, 0 to 4,096
-pub record Roomy (atoms xs ys : List ℕ) (ks : List ℤ) : Type 0 where
-  pub for-atoms : atomPlaces ≤ length atoms
-  pub for-xs : atomPlaces ≤ length xs
-  pub for-ys : atomPlaces ≤ length ys
-  pub for-ks : atomPlaces ≤ length ks
+-- the words of a line that states a difference: its place and size, its kind, atom and p, one element behind their count, g and u
+abbrev pub differenceWords : ℕ
+differenceWords = 9
+
+-- room for as many differences as stand on a tape of so many words
+pub record Roomy (tape : ℕ) (atoms xs ys : List ℕ) (ks : List ℤ) : Type 0 where
+  pub for-atoms : tape ≤ differenceWords * length atoms
+  pub for-xs : tape ≤ differenceWords * length xs
+  pub for-ys : tape ≤ differenceWords * length ys
+  pub for-ks : tape ≤ differenceWords * length ks
+
+-- four slices have n places or more
+pub record Within (n : ℕ) (atoms xs ys : List ℕ) (ks : List ℤ) : Type 0 where
+  pub in-atoms : n ≤ length atoms
+  pub in-xs : n ≤ length xs
+  pub in-ys : n ≤ length ys
+  pub in-ks : n ≤ length ks
+
+-- the differences found stand within them
+abbrev pub StatedWithin : Step → (atoms xs ys : List ℕ) → List ℤ → Type 0
+StatedWithin (Good n) atoms xs ys ks = Within n atoms xs ys ks
+StatedWithin (Refused r) atoms xs ys ks = Unit {0}
 
 -- ---- one line's turn
 
@@ -70,16 +86,22 @@ pub record Tables (terms elements seen : List ℕ) : Type 0 where
   pub for-elements : length elements ≡ elementPlaces
   pub for-seen : length seen ≡ atomPlaces
 
--- with the tables after it, the turn goes on as the line at p and those behind it did before; each difference enters an atom
+-- a line that states a difference has its words
+abbrev pub Lasting : Turn → (t : List ℕ) (p : ℕ) → Type 0
+Lasting turn.Goes t p = Unit {0}
+Lasting (turn.States a x y k) t p = p + differenceWords ≤ after t p
+Lasting (turn.Refused r) t p = Unit {0}
+
+-- with the tables after it, the turn goes on as the line at p and those behind it did before
 pub record Turned (t : List ℕ) (p : ℕ) (terms elements seen : List ℕ) (r : Turn) (terms′ elements′ seen′ : List ℕ) : Type 0 where
   pub goes : (ls : List Line) → bind (asTurn r) (λ d. more d (walk (envOf t terms′ elements′ seen′) ls)) ≡ walk (envOf t terms elements seen) (lineAt t p ∷ ls)
-  pub counts : bind (asTurn r) (λ d. got (oneMore (entered seen) d)) ≡ bind (asTurn r) (λ d. got (entered seen′))
+  pub lasts : Lasting r t p
 
 -- where a turn states a difference, there is room for it behind n others
-abbrev pub RoomFor : Turn → ℕ → Type 0
-RoomFor turn.Goes n = Unit {0}
-RoomFor (turn.States a x y k) n = n < atomPlaces
-RoomFor (turn.Refused r) n = Unit {0}
+abbrev pub RoomFor : Turn → ℕ → (atoms xs ys : List ℕ) → List ℤ → Type 0
+RoomFor turn.Goes n atoms xs ys ks = Unit {0}
+RoomFor (turn.States a x y k) n atoms xs ys ks = Within (n + 1) atoms xs ys ks
+RoomFor (turn.Refused r) n atoms xs ys ks = Unit {0}
 
 -- the turn's difference is stored behind n others: f before, g after
 pub record Stored (s : Turn) (n : ℕ) (f : ℕ → Stated) (r : Step) (g : ℕ → Stated) : Type 0 where

@@ -8,7 +8,7 @@ use borrow.Author.Needs.{needs}
 use Rattle.faults.specs.Limits.{lastAtom}
 use Rattle.fields.specs.inner.Values.{asAtom, asPassed}
 use Rattle.aspif.specs.Candidate.{ascending}
-use Rattle.aspif.proofs.Candidates.{above-bounds, Marking, marking-start, marking-more, marking-out, marking-stop, marking-open, marking-last}
+use Rattle.aspif.proofs.Candidates.{above-bounds, Marking, marking-start, marking-more, marking-out, marking-stop, marking-open, marking-last, marking-above}
 use Rattle.aspif.proofs.candidate.ascending.Statement.{statement}
 use Rattle.aspif.proofs.candidate.ascending.Tie as tie
 
@@ -37,7 +37,7 @@ same-length : tie.Need-same-length Inv-loop μ-loop
 same-length c = search needs
 
 returns : tie.Need-returns Inv-loop μ-loop
-returns c = marking-stop (c .before .before .before .before .before .before .loop .inv) (c .before .before .before .before .if1 .taken) (sym (c .refusal .ensures) ∙ c .before .before .before .atom-above .ensures)
+returns c = (marking-stop (c .before .before .before .before .before .before .loop .inv) (c .before .before .before .before .if1 .taken) (sym (c .refusal .ensures) ∙ c .before .before .before .atom-above .ensures), tt)
 
 cast-i : tie.Need-cast-i Inv-loop μ-loop
 cast-i c = search needs
@@ -71,7 +71,7 @@ same-length-2 c = simp length-set (omega arith)
 
 returns-2 : tie.Need-returns-2 Inv-loop μ-loop
 returns-2 c =
-    marking-open (c .before .before .before .before .before .before .before .before .before .before .before .before .before .before .loop .inv) (c .before .before .before .before .before .before .before .before .before .before .before .before .if1 .taken) (sym (ap asAtom (c .before .before .before .before .before .before .before .before .before .a .given .1)) ∙ c .before .before .before .before .before .before .before .before .before .before .before .atom-above .ensures) (sym (ap asPassed (c .before .before .before .before .enum-told2 .given .1)) ∙ c .before .before .before .before .before .before .byte .ensures) (sym (c .refusal2 .ensures) ∙ c .before .before .before .ending .ensures)
+    (marking-open (c .before .before .before .before .before .before .before .before .before .before .before .before .before .before .loop .inv) (c .before .before .before .before .before .before .before .before .before .before .before .before .if1 .taken) (sym (ap asAtom (c .before .before .before .before .before .before .before .before .before .a .given .1)) ∙ c .before .before .before .before .before .before .before .before .before .before .before .atom-above .ensures) (sym (ap asPassed (c .before .before .before .before .enum-told2 .given .1)) ∙ c .before .before .before .before .before .before .byte .ensures) (sym (c .refusal2 .ensures) ∙ c .before .before .before .ending .ensures), tt)
 
 same-length-3 : tie.Need-same-length-3 Inv-loop μ-loop
 same-length-3 c = simp length-set (omega arith)
@@ -84,7 +84,8 @@ returns-3 c =
     let the-a = c .before .before .before .before .before .before .before .before .a in
     let byte = c .before .before .before .before .before .byte in
     let told = c .before .before .before .enum-told2 in
-    marking-last (loop .inv) (loop-test .taken) (sym (ap asAtom (the-a .given .1)) ∙ atom-above .ensures) (sym (ap asPassed (told .given .1)) ∙ byte .ensures) (sym (ap asPassed (c .enum-told3 .given .1)) ∙ c .before .before .ending .ensures)
+    let read = sym (ap asAtom (the-a .given .1)) ∙ atom-above .ensures in
+    (marking-last (loop .inv) (loop-test .taken) read (sym (ap asPassed (told .given .1)) ∙ byte .ensures) (sym (ap asPassed (c .enum-told3 .given .1)) ∙ c .before .before .ending .ensures), marking-above (loop .inv) (loop-test .taken) read)
 
 loop-less : tie.Need-loop-less Inv-loop μ-loop
 loop-less c = omega (arith, above-bounds _ _ _ (sym (ap asAtom (c .before .before .before .before .before .before .a .given .1)) ∙ c .before .before .before .before .before .before .before .before .atom-above .ensures))
@@ -104,7 +105,7 @@ same-length-4 : tie.Need-same-length-4 Inv-loop μ-loop
 same-length-4 c = search needs
 
 returns-4 : tie.Need-returns-4 Inv-loop μ-loop
-returns-4 c = rw (c .seven .ensures) (marking-out (c .before .before .before .loop .inv) (c .before .if1 .left))
+returns-4 c = (rw (c .seven .ensures) (marking-out (c .before .before .before .loop .inv) (c .before .if1 .left)), tt)
 
 pub ascending-spec : {M : Type 1} → statement M
 ascending-spec =

@@ -1,5 +1,6 @@
 -- `aspif::candidate::candidate` meets its contract: a line end alone leaves the bitmap blank, anything else is a list of atoms. Assumes nothing.
 use mathlib.Core.Path.{sym, ap, _∙_}
+use native.Mathlib.Omega.{arith}
 use borrow.Author.Needs.{needs}
 use Rattle.fields.specs.inner.Values.{asPassed}
 use Rattle.basics.proofs.Bitmaps.{marks-none}
@@ -28,7 +29,7 @@ same-length c = search needs
 returns : tie.Need-returns
 returns c =
     let z = c .before .before .before .before .before .before .before .start .ensures in
-    (rw z at (c .before .before .ascending .ensures)) ∙ candidate-other _ (sym (ap asPassed (c .before .before .before .before .enum-told2 .given .1)) ∙ (rw z at (c .before .before .before .before .before .before .line-end .ensures)))
+    ((rw z at (c .before .before .ascending .ensures .0)) ∙ candidate-other _ (sym (ap asPassed (c .before .before .before .before .enum-told2 .given .1)) ∙ (rw z at (c .before .before .before .before .before .before .line-end .ensures))), c .before .before .ascending .ensures .1)
 
 ending-requires : tie.Need-ending-requires
 ending-requires c κs = search needs
@@ -45,12 +46,13 @@ refusal-requires c κs = rw (c .enum-told4 .given .1)
 returns-2 : tie.Need-returns-2
 returns-2 c =
     let z = c .before .before .before .before .before .before .before .start .ensures in
-    empty-refused _ (sym (ap asPassed (c .before .before .before .before .enum-told .given .1)) ∙ (rw z at (c .before .before .before .before .before .before .line-end .ensures))) (sym (c .refusal .ensures) ∙ (rw z at (c .before .before .before .ending .ensures)))
+    (empty-refused _ (sym (ap asPassed (c .before .before .before .before .enum-told .given .1)) ∙ (rw z at (c .before .before .before .before .before .before .line-end .ensures))) (sym (c .refusal .ensures) ∙ (rw z at (c .before .before .before .ending .ensures))), tt)
 
 returns-3 : tie.Need-returns-3
 returns-3 c =
     let z = c .before .before .before .before .before .before .start .ensures in
-    rw (marks-none _ (c .before .before .before .before .before .before .before .before .before .pre .clear)) (empty-good _ (sym (ap asPassed (c .before .before .before .enum-told .given .1)) ∙ (rw z at (c .before .before .before .before .before .line-end .ensures))) (sym (ap asPassed (c .enum-told3 .given .1)) ∙ (rw z at (c .before .before .ending .ensures))))
+    let blank = c .before .before .before .before .before .before .before .before .before .pre in
+    (rw (marks-none _ (blank .clear)) (empty-good _ (sym (ap asPassed (c .before .before .before .enum-told .given .1)) ∙ (rw z at (c .before .before .before .before .before .line-end .ensures))) (sym (ap asPassed (c .enum-told3 .given .1)) ∙ (rw z at (c .before .before .ending .ensures)))), record { places = blank .places; small = omega arith; none = λ a h. rw (blank .clear a) })
 
 pub candidate-spec : {M : Type 1} → statement M
 candidate-spec =

@@ -1,4 +1,5 @@
 -- `take_atom`: a second statement and one that is no difference are refused; else the atom is entered.
+use mathlib.Core.Path.{sym, _∙_}
 use native.Mathlib.Omega.{arith}
 use Rattle.terms.proofs.Signs.{back}
 use Rattle.terms.proofs.ByKind.{atom-room}
@@ -13,8 +14,8 @@ add-q c = omega (arith, c .before .before .before .before .pre .0 .stand .inside
 atom-at-requires : tie.Need-atom-at-requires
 atom-at-requires c κs = search needs
 
-atom-entry-requires : tie.Need-atom-entry-requires
-atom-entry-requires c κs = search needs
+is-entered-requires : tie.Need-is-entered-requires
+is-entered-requires c κs = search needs
 
 refuse-requires : tie.Need-refuse-requires
 refuse-requires c κs = search needs
@@ -23,7 +24,7 @@ same-length : tie.Need-same-length
 same-length c = search needs
 
 returns : tie.Need-returns
-returns c = turn-refused _ _ _ _ _ _ (c .refuse .ensures) (atom-second _ _ _ _ _ (c .before .before .before .before .before .before .before .before .before .pre .1) _ _ (c .before .before .before .before .atom-at .ensures) (c .before .before .atom-entry .ensures) (c .before .if1 .taken))
+returns c = turn-refused _ _ _ _ _ _ (c .refuse .ensures) (atom-second _ _ _ _ _ (c .before .before .before .before .before .before .before .before .before .pre .1) _ (c .before .before .before .before .atom-at .ensures) (sym (c .before .if1 .taken) ∙ c .before .before .is-entered .ensures))
 
 difference-requires : tie.Need-difference-requires
 difference-requires c κs = search needs
@@ -43,11 +44,8 @@ same-length-2 c = search needs
 returns-2 : tie.Need-returns-2
 returns-2 c = turn-refused _ _ _ _ _ _ (c .refuse2 .ensures) (atom-none _ _ _ _ _ (c .before .before .before .before .before .before .before .before .before .before .before .before .pre .1) (rw (c .before .enum-told .given .1) at (c .before .before .before .difference .ensures)))
 
-add-mark : tie.Need-add-mark
-add-mark c = omega (arith, c .before .before .before .before .before .before .before .before .before .before .before .before .pre .0 .stand .inside)
-
-put-atom-requires : tie.Need-put-atom-requires
-put-atom-requires c κs = omega (arith, c .before .before .before .before .before .before .before .before .atom-at .ensures, c .before .before .before .before .before .before .before .before .before .before .before .before .before .pre .2, atom-room (c .before .before .before .before .before .before .before .before .before .before .before .before .before .pre .0) (c .before .before .before .before .before .before .before .before .before .before .before .before .before .pre .1))
+enter-atom-requires : tie.Need-enter-atom-requires
+enter-atom-requires c κs = let pre = c .before .before .before .before .before .before .before .before .before .before .before .before .before .pre in omega (arith, c .before .before .before .before .before .before .before .before .atom-at .ensures, pre .2, atom-room (pre .0) (pre .1))
 
 same-length-3 : tie.Need-same-length-3
 same-length-3 c = search needs
@@ -58,7 +56,7 @@ returns-3 c =
     let d = c .before .before .before .before .before .d .given in
     let k = d .0 .1 .1 .0 in
     let a = c .before .before .before .before .before .before .before .before .before .before .before .atom-at .ensures in
-    atom-turned _ _ _ _ _ (pre .1) _ _ _ (record { x = d .0 .0 .0; y = d .0 .1 .0 .0; k = k }) _ a (c .before .before .before .before .before .before .before .before .before .atom-entry .ensures) (c .before .before .before .before .before .before .before .before .if1 .left) (rw (d .1) at (c .before .before .before .before .before .before .before .difference .ensures)) (omega (arith, a, pre .2, atom-room (pre .0) (pre .1))) (c .before .before .put-atom .ensures) (rw (back {z = k} (record { sfits = c .before .before .before .before .known-told .given .1 .1 .0 .1 })))
+    atom-turned _ _ _ _ _ (pre .1) _ _ (record { x = d .0 .0 .0; y = d .0 .1 .0 .0; k = k }) _ (pre .0) a (sym (c .before .before .before .before .before .before .before .before .if1 .left) ∙ c .before .before .before .before .before .before .before .before .before .is-entered .ensures) (rw (d .1) at (c .before .before .before .before .before .before .before .difference .ensures)) (omega (arith, a, pre .2, atom-room (pre .0) (pre .1))) (c .before .before .enter-atom .ensures) (rw (back {z = k} (record { sfits = c .before .before .before .before .known-told .given .1 .1 .0 .1 })))
 
 pub take-atom-spec : {M : Type 1} → statement M
 take-atom-spec =
@@ -66,7 +64,7 @@ take-atom-spec =
     (tie.spec
     add-q
     atom-at-requires
-    atom-entry-requires
+    is-entered-requires
     refuse-requires
     same-length
     returns
@@ -76,7 +74,6 @@ take-atom-spec =
     refuse-requires-2
     same-length-2
     returns-2
-    add-mark
-    put-atom-requires
+    enter-atom-requires
     same-length-3
     returns-3)

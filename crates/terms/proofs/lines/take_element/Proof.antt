@@ -28,6 +28,9 @@ element-at-requires c κs = search needs
 add-mark : tie.Need-add-mark
 add-mark c = omega (arith, c .before .before .before .before .before .before .before .pre .0 .stand .inside)
 
+cast-mark : tie.Need-cast-mark
+cast-mark c = record { fits = omega (arith, c .before .before .before .before .before .before .before .pre .0 .stand .inside, c .before .before .before .before .before .before .before .pre .3) }
+
 put-element-requires : tie.Need-put-element-requires
 put-element-requires c κs = omega (arith, c .before .element-at .ensures, c .before .before .before .before .before .before .before .before .pre .2, element-room (c .before .before .before .before .before .before .before .before .pre .0) (c .before .before .before .before .before .before .before .before .pre .1))
 
@@ -48,6 +51,7 @@ take-element-spec =
     returns
     element-at-requires
     add-mark
+    cast-mark
     put-element-requires
     same-length-2
     returns-2)

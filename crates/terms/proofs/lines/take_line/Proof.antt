@@ -15,13 +15,13 @@ enum-told : tie.Need-enum-told
 enum-told c = search needs
 
 take-term-requires : tie.Need-take-term-requires
-take-term-requires c κs = (c .before .before .before .before .before .before .before .before .before .pre .0, (role-is _ _ _ _ _ (c .before .before .before .before .word-at .ensures .0) (c .before .before .before .role-of .ensures) (c .before .enum-told .given .1)), c .before .before .before .before .before .before .before .before .before .pre .1 .for-terms)
+take-term-requires c κs = (c .before .before .before .before .before .before .before .before .before .pre .0, (role-is _ _ _ _ _ (c .before .before .before .before .word-at .ensures .0) (c .before .before .before .role-of .ensures) (c .before .enum-told .given .1)), c .before .before .before .before .before .before .before .before .before .pre .1 .for-terms, c .before .before .before .before .before .before .before .before .before .pre .2)
 
 enum-told-2 : tie.Need-enum-told-2
 enum-told-2 c = search needs
 
 take-element-requires : tie.Need-take-element-requires
-take-element-requires c κs = (c .before .before .before .before .before .before .before .before .before .before .pre .0, (role-is _ _ _ _ _ (c .before .before .before .before .before .word-at .ensures .0) (c .before .before .before .before .role-of .ensures) (c .before .before .enum-told2 .given .1)), c .before .before .before .before .before .before .before .before .before .before .pre .1 .for-elements)
+take-element-requires c κs = (c .before .before .before .before .before .before .before .before .before .before .pre .0, (role-is _ _ _ _ _ (c .before .before .before .before .before .word-at .ensures .0) (c .before .before .before .before .role-of .ensures) (c .before .before .enum-told2 .given .1)), c .before .before .before .before .before .before .before .before .before .before .pre .1 .for-elements, c .before .before .before .before .before .before .before .before .before .before .pre .2)
 
 enum-told-3 : tie.Need-enum-told-3
 enum-told-3 c = search needs

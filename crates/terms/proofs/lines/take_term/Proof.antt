@@ -28,6 +28,9 @@ term-at-requires c κs = search needs
 add-mark : tie.Need-add-mark
 add-mark c = omega (arith, c .before .before .before .before .before .before .pre .0 .stand .inside)
 
+cast-mark : tie.Need-cast-mark
+cast-mark c = record { fits = omega (arith, c .before .before .before .before .before .before .pre .0 .stand .inside, c .before .before .before .before .before .before .pre .3) }
+
 put-term-requires : tie.Need-put-term-requires
 put-term-requires c κs = omega (arith, c .before .term-at .ensures, c .before .before .before .before .before .before .before .pre .2, term-room (c .before .before .before .before .before .before .before .pre .0) (c .before .before .before .before .before .before .before .pre .1))
 
@@ -48,6 +51,7 @@ take-term-spec =
     returns
     term-at-requires
     add-mark
+    cast-mark
     put-term-requires
     same-length-2
     returns-2)
