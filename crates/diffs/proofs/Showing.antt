@@ -1,4 +1,4 @@
--- The cycle that is laid out is the one that was found, turned round to its smallest label.
+-- The cycle that is laid out is the one that was found, turned round to its smallest key.
 use mathlib.Core.Path.{_≡_, ap, subst, sym, _∙_}
 use mathlib.Core.Logic.{inr}
 use mathlib.Core.List.{List, [], _∷_, _++_, map, map-append}
@@ -9,7 +9,7 @@ use lib.Seq.{slice, length-slice}
 use Rattle.basics.specs.Lists.{All}
 use Rattle.diffs.specs.Diff.{Diff, NegCycle, LeastFirst}
 use Rattle.diffs.specs.inner.Answer.{cell, Among, Shown}
-use Rattle.diffs.specs.inner.Steps.{Numbers, LeastLabel, turned, Laid}
+use Rattle.diffs.specs.inner.Steps.{Numbers, LeastKey, turned, Laid}
 use Rattle.diffs.proofs.Laying.{source, turned-length}
 use Rattle.diffs.proofs.Names.{all-join}
 use Rattle.diffs.proofs.Slices.{slice-at, slice-split}
@@ -40,7 +40,7 @@ all-turned P w start end q h f b p =
     (all-slice P w q end h (λ k i j. p k (omega arith) j))
     (all-slice P w start q (omega arith) (λ k i j. p k i (omega arith)))
 
--- ---- the smallest label comes first
+-- ---- the smallest key comes first
 
 least-all : (f : ℕ → ℕ) (i : ℕ) (l : List ℕ) → All (λ j. f i ≤ f j) l → All (λ b. f i ≤ b) (map f l)
 least-all f i [] h = tt
@@ -51,18 +51,18 @@ least-first f i [] e h = tt
 least-first f i (j ∷ l) e h = subst (λ (n : ℕ). All (λ b. f n ≤ b) (map f l)) (sym e) (least-all f i l (h .1))
 
 -- a negative cycle that was found and laid is shown
-pub laid-shown : (m : ℕ) (c : ℕ → Diff) (labels w : List ℕ) (start end : ℕ) (room room′ : List ℕ) (r : ℕ)
-    → Numbers m w start end → NegCycle (Among m c) (map c (slice start end w)) → Laid labels w start end room room′ r
-    → Shown m c labels room room′ r
-laid-shown m c labels w start end room room′ r v n l =
-    let g : LeastLabel labels w start end (l .first) = l .least in
+pub laid-shown : (m : ℕ) (c : ℕ → Diff) (keys labels w : List ℕ) (start end : ℕ) (room room′ : List ℕ) (r : ℕ)
+    → Numbers m w start end → NegCycle (Among m c) (map c (slice start end w)) → Laid keys labels w start end room room′ r
+    → Shown m c keys labels room room′ r
+laid-shown m c keys labels w start end room room′ r v n l =
+    let g : LeastKey keys w start end (l .first) = l .least in
     record {
       numbers = turned w start end (l .first);
       within = all-turned (λ i. i < m) w start end (l .first) (v .within) (g .from) (g .before) (v .numbers);
       negative = laid-cycle (Among m c) c w start end (l .first) (g .from) (g .before) n;
       count = l .count ∙ sym (turned-length w start end (l .first) (v .within) (g .from) (g .before));
-      least = least-first (cell labels) (cell w (l .first)) (turned w start end (l .first))
+      least = least-first (cell keys) (cell w (l .first)) (turned w start end (l .first))
           (source w start end (l .first) (v .within) (g .from) (g .before) 0 (l .first) (omega (arith, g .from, g .before)) (inr (omega (arith, g .before), omega arith)) .2)
-          (all-turned (λ j. cell labels (cell w (l .first)) ≤ cell labels j) w start end (l .first) (v .within) (g .from) (g .before) (g .least));
+          (all-turned (λ j. cell keys (cell w (l .first)) ≤ cell keys j) w start end (l .first) (v .within) (g .from) (g .before) (g .least));
       shown = l .shown ∙ ap (λ (i : ℕ). map (cell labels) (turned w start end (l .first)) ++ drop i room) (sym (l .count));
     }

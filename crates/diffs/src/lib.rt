@@ -1,5 +1,5 @@
 // The earliest times that keep differences x - y ≤ k, or a negative cycle.
-// Difference number i is xs[i] - ys[i] ≤ ks[i], and labels[i] is the number that shows it.
+// Difference number i is xs[i] - ys[i] ≤ ks[i]. A cycle is shown from its smallest keys[i] on, and labels[i] is the number that shows the difference.
 ghost use mathlib.Core.Path.{_≡_};
 ghost use mathlib.Core.List.{List, map};
 ghost use Prim.Native.Nat.{ℕ, _-_, _<_, _≤_, _^_};
@@ -10,8 +10,9 @@ ghost use Rattle.diffs.specs.Diff.{Sum};
 ghost use Rattle.diffs.specs.inner.Answer.{cell, diffAt, Given, Decided};
 ghost use Rattle.diffs.specs.inner.Steps.{up, down};
 ghost use Rattle.diffs.specs.inner.Steps.{Relaxed, Underway, RoundUpTo, Fresh, SettledOrStuck};
-ghost use Rattle.diffs.specs.inner.Steps.{FoundPlace, Traceable, Traced, Numbers, LeastLabel, Laid};
+ghost use Rattle.diffs.specs.inner.Steps.{FoundPlace, Traceable, Traced, Numbers, LeastKey, Laid};
 use faults::TERM_PLACES;
+use faults::TermNo;
 
 // What the bound k adds: k, or 0 where it is below 0.
 fn up_of(k: i32) -> u64
@@ -33,54 +34,62 @@ fn down_of(k: i32) -> u64
 }
 
 // Whether x - y ≤ k, the difference of number i, was not kept: then y is raised to x - k, and i becomes its parent.
-fn relax(x: usize, y: usize, k: i32, i: u32, t: &mut [u64], p: &mut [u32]) -> bool
-    requires { ⌜ (x < length (now t)) × (y < length (now t)) × (length (now p) ≡ length (now t)) ⌝ }
-    requires { ⌜ (cell (now t) x < 2 ^ 62) × (cell (now t) y < 2 ^ 62) ⌝ }
-    ensures { λ r. ⌜ Relaxed r (record { x = x; y = y; k = k }) i (now (t .entry)) (now (p .entry)) (now (t .exit)) (now (p .exit)) ⌝ }
+fn relax(x: TermNo, y: TermNo, k: i32, i: u32, t: &mut [u64], p: &mut [u32]) -> bool
+    requires { ⌜ (x .0 < length (now t)) × (y .0 < length (now t)) × (length (now p) ≡ length (now t)) ⌝ }
+    requires { ⌜ (cell (now t) (x .0) < 2 ^ 62) × (cell (now t) (y .0) < 2 ^ 62) ⌝ }
+    ensures { λ r. ⌜ Relaxed r (record { x = x .0; y = y .0; k = k }) i (now (t .entry)) (now (p .entry)) (now (t .exit)) (now (p .exit)) ⌝ }
 {
+    let from = x.0 as usize;
+    let to = y.0 as usize;
     let u = up_of(k);
     let d = down_of(k);
-    let a = t[x] + d;
-    let b = t[y] + u;
+    let a = t[from] + d;
+    let b = t[to] + u;
     if b < a {
-        t[y] = a - u;
-        p[y] = i;
+        t[to] = a - u;
+        p[to] = i;
         true
     } else {
         false
     }
 }
 
-// Relaxes each difference once: the name raised last, or the count of names where none was raised.
-fn round(xs: &[u32], ys: &[u32], ks: &[i32], t: &mut [u64], p: &mut [u32]) -> usize
+// What was raised last: nothing, or a name.
+enum Raised {
+    Quiet,
+    Name(TermNo),
+}
+
+// What a round raised last, which relaxes each difference once.
+fn round(xs: &[u32], ys: &[u32], ks: &[i32], t: &mut [u64], p: &mut [u32]) -> Raised
     requires { ⌜ Underway (now xs) (now ys) (now ks) (now t) (now p) ⌝ }
     ensures { λ r. ⌜ RoundUpTo (length (now (ks .entry))) (length (now (t .entry))) (diffAt (now (xs .entry)) (now (ys .entry)) (now (ks .entry))) (length (now (ks .entry))) r (now (t .entry)) (now (p .entry)) (now (t .exit)) (now (p .exit)) ⌝ }
 {
-    let mut last = t.len();
+    let mut last = Raised::Quiet;
     let mut i: usize = 0;
     while i < ks.len() {
-        let x = xs[i] as usize;
-        let y = ys[i] as usize;
-        if relax(x, y, ks[i], i as u32, t, p) {
-            last = y;
+        let x = xs[i];
+        let y = ys[i];
+        if relax(TermNo(x), TermNo(y), ks[i], i as u32, t, p) {
+            last = Raised::Name(TermNo(y));
         }
         i += 1;
     }
     last
 }
 
-// The count n of names, after the first round that raises nothing: t has the earliest times. Or the name that round n + 1 still raised.
-fn settle(xs: &[u32], ys: &[u32], ks: &[i32], t: &mut [u64], p: &mut [u32]) -> usize
+// Nothing, after the first round that raises nothing: t has the earliest times. Or the name that round n + 1 of n names still raised.
+fn settle(xs: &[u32], ys: &[u32], ks: &[i32], t: &mut [u64], p: &mut [u32]) -> Raised
     requires { ⌜ Fresh (now xs) (now ys) (now ks) (now t) (now p) ⌝ }
     ensures { λ r. ⌜ SettledOrStuck (length (now (ks .entry))) (length (now (t .entry))) (diffAt (now (xs .entry)) (now (ys .entry)) (now (ks .entry))) r (now (t .exit)) (now (p .exit)) ⌝ }
 {
     let n = t.len();
-    let mut last = n;
+    let mut last = Raised::Quiet;
     let mut r: usize = 0;
     while r <= n {
         last = round(xs, ys, ks, t, p);
-        if last == n {
-            return n;
+        if let Raised::Quiet = last {
+            return Raised::Quiet;
         }
         r += 1;
     }
@@ -88,15 +97,14 @@ fn settle(xs: &[u32], ys: &[u32], ks: &[i32], t: &mut [u64], p: &mut [u32]) -> u
 }
 
 // The first place of w, from `from` on, whose difference raises a; the length of w where there is none.
-fn find(ys: &[u32], w: &[u32], from: usize, a: usize) -> usize
+fn find(ys: &[u32], w: &[u32], from: usize, a: TermNo) -> usize
     requires { ⌜ (from ≤ length (now w)) × ((k : ℕ) → from ≤ k → k < length (now w) → cell (now w) k < length (now ys)) ⌝ }
-    ensures { λ r. ⌜ FoundPlace (now (ys .entry)) (now (w .entry)) from a r ⌝ }
+    ensures { λ r. ⌜ FoundPlace (now (ys .entry)) (now (w .entry)) from (a .0) r ⌝ }
 {
     let mut q = from;
     while q < w.len() {
         let e = w[q] as usize;
-        let y = ys[e] as usize;
-        if y == a {
+        if ys[e] == a.0 {
             return q;
         }
         q += 1;
@@ -128,8 +136,8 @@ struct Walk {
 }
 
 // The part of w where a negative cycle stands: it follows the parents from `last` until a name comes twice.
-fn trace(xs: &[u32], ys: &[u32], ks: &[i32], p: &[u32], last: usize, w: &mut [u32]) -> Walk
-    requires { ⌜ Traceable (now xs) (now ys) (now ks) (now p) (now w) last ⌝ }
+fn trace(xs: &[u32], ys: &[u32], ks: &[i32], p: &[u32], last: TermNo, w: &mut [u32]) -> Walk
+    requires { ⌜ Traceable (now xs) (now ys) (now ks) (now p) (now w) (last .0) ⌝ }
     ensures { λ r. ⌜ Traced (length (now (ks .entry))) (diffAt (now (xs .entry)) (now (ys .entry)) (now (ks .entry))) (now (w .exit)) (r .start) (r .end) (r .sum) ⌝ }
 {
     let top = w.len();
@@ -142,24 +150,26 @@ fn trace(xs: &[u32], ys: &[u32], ks: &[i32], p: &[u32], last: usize, w: &mut [u3
             let sum = sum_of(ks, w, start, end);
             return Walk { start, end, sum };
         }
-        let e = p[a];
+        let at = a.0 as usize;
+        let e = p[at];
         start -= 1;
         w[start] = e;
-        a = xs[e as usize] as usize;
+        let x = xs[e as usize];
+        a = TermNo(x);
     }
 }
 
-// The place in a part of w whose label is the smallest.
-fn least(labels: &[u32], w: &[u32], start: usize, end: usize) -> usize
-    requires { ⌜ Numbers (length (now labels)) (now w) start end ⌝ }
-    ensures { λ r. ⌜ LeastLabel (now (labels .entry)) (now (w .entry)) start end r ⌝ }
+// The place in a part of w whose key is the smallest.
+fn least(keys: &[u32], w: &[u32], start: usize, end: usize) -> usize
+    requires { ⌜ Numbers (length (now keys)) (now w) start end ⌝ }
+    ensures { λ r. ⌜ LeastKey (now (keys .entry)) (now (w .entry)) start end r ⌝ }
 {
     let mut q = start;
     let mut i = start + 1;
     while i < end {
         let a = w[i] as usize;
         let b = w[q] as usize;
-        if labels[a] < labels[b] {
+        if keys[a] < keys[b] {
             q = i;
         }
         i += 1;
@@ -167,12 +177,13 @@ fn least(labels: &[u32], w: &[u32], start: usize, end: usize) -> usize
     q
 }
 
-// The length of a part of w, whose labels now stand in the room's first places, from the smallest on and round to it.
-fn lay(labels: &[u32], w: &[u32], start: usize, end: usize, room: &mut [u32]) -> usize
-    requires { ⌜ Numbers (length (now labels)) (now w) start end × (end - start ≤ length (now room)) ⌝ }
-    ensures { λ r. ⌜ Laid (now (labels .entry)) (now (w .entry)) start end (now (room .entry)) (now (room .exit)) r ⌝ }
+// The length of a part of w, whose labels now stand in the room's first places, from the smallest key on and round to it.
+fn lay(keys: &[u32], labels: &[u32], w: &[u32], start: usize, end: usize, room: &mut [u32]) -> usize
+    requires { ⌜ Numbers (length (now keys)) (now w) start end × (length (now labels) ≡ length (now keys)) ⌝ }
+    requires { ⌜ end - start ≤ length (now room) ⌝ }
+    ensures { λ r. ⌜ Laid (now (keys .entry)) (now (labels .entry)) (now (w .entry)) start end (now (room .entry)) (now (room .exit)) r ⌝ }
 {
-    let q = least(labels, w, start, end);
+    let q = least(keys, w, start, end);
     let n = end - start;
     let mut j: usize = 0;
     while j < n {
@@ -201,25 +212,26 @@ pub fn decide(
     xs: &[u32],
     ys: &[u32],
     ks: &[i32],
+    keys: &[u32],
     labels: &[u32],
     t: &mut [u64],
     room: &mut [u32],
 ) -> Outcome
-    requires { ⌜ Given (now xs) (now ys) (now ks) (now labels) (now t) (now room) ⌝ }
-    ensures { λ r. ⌜ Decided r (length (now (ks .entry))) (diffAt (now (xs .entry)) (now (ys .entry)) (now (ks .entry))) (now (labels .entry)) (now (t .exit)) (now (room .entry)) (now (room .exit)) ⌝ }
+    requires { ⌜ Given (now xs) (now ys) (now ks) (now keys) (now labels) (now t) (now room) ⌝ }
+    ensures { λ r. ⌜ Decided r (length (now (ks .entry))) (diffAt (now (xs .entry)) (now (ys .entry)) (now (ks .entry))) (now (keys .entry)) (now (labels .entry)) (now (t .exit)) (now (room .entry)) (now (room .exit)) ⌝ }
 {
     let mut p = [0u32; TERM_PLACES];
-    let last = settle(xs, ys, ks, t, &mut p);
-    if last == t.len() {
+    let raised = settle(xs, ys, ks, t, &mut p);
+    let Raised::Name(last) = raised else {
         return Outcome::Times;
-    }
+    };
     let mut w = [0u32; TERM_PLACES];
     let c = trace(xs, ys, ks, &p, last, &mut w);
     let start = c.start;
     let end = c.end;
     let sum = c.sum;
     if sum < 0 {
-        let n = lay(labels, &w, start, end, room);
+        let n = lay(keys, labels, &w, start, end, room);
         let count = n as u32;
         return Outcome::Cycle(count);
     }

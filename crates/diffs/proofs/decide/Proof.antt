@@ -1,13 +1,13 @@
 -- `decide`: a quiet round leaves the earliest times, else the parents lead to a negative cycle, whose sum passes the test.
 use borrow.Author.Needs.{needs}
-use mathlib.Core.Path.{refl, sym, _∙_}
+use mathlib.Core.Path.{refl, _∙_}
 use Prim.Native.Nat.{ℕ}
 use native.Mathlib.Omega.{arith}
 use lib.ListN.{length-replicate}
 use mir.Facts.{toZ-ofZ}
 use Rattle.faults.specs.inner.Places.{termPlaces}
 use Rattle.diffs.specs.inner.Answer.{timed, cyclic}
-use Rattle.diffs.proofs.Deciding.{fresh, times-of, traceable, numbers-as, never}
+use Rattle.diffs.proofs.Deciding.{fresh, traceable, numbers-as, never}
 use Rattle.diffs.proofs.Showing.{laid-shown}
 use Rattle.diffs.proofs.decide.Statement.{statement}
 use Rattle.diffs.proofs.decide.Tie as tie
@@ -16,13 +16,19 @@ slice-aggregate-settle : tie.Need-slice-aggregate-settle
 slice-aggregate-settle c = search needs
 
 settle-requires : tie.Need-settle-requires
-settle-requires c κs = fresh _ _ _ _ _ _ _ (c .before .before .before .before .before .before .before .pre) (length-replicate {A = ℕ} termPlaces 0)
+settle-requires c κs = fresh _ _ _ _ _ _ _ _ (c .before .before .before .before .before .before .before .before .pre) (length-replicate {A = ℕ} termPlaces 0)
+
+enum-known-raised : tie.Need-enum-known-raised
+enum-known-raised c = search needs
+
+enum-told : tie.Need-enum-told
+enum-told c = search needs
 
 same-length : tie.Need-same-length
 same-length c = search needs
 
 returns : tie.Need-returns
-returns c = timed refl (times-of _ _ _ _ (c .before .before .before .before .settle .last .1 .1 .1 .0) _ (c .before .before .before .before .settle .ensures) (c .if1 .taken ∙ c .before .before .before .before .settle .kept .1 .1 .1 .0)) refl
+returns c = timed refl (rw (c .enum-told .given .1) at (c .before .before .before .before .before .settle .ensures)) refl
 
 slice-aggregate-trace : tie.Need-slice-aggregate-trace
 slice-aggregate-trace c = search needs
@@ -32,9 +38,9 @@ slice-aggregate-trace-2 c = search needs
 
 trace-requires : tie.Need-trace-requires
 trace-requires c κs =
-    let g = c .before .before .before .before .before .before .before .before .before .before .before .before .before .before .pre in
-    let s = c .before .before .before .before .before .before .settle in
-    traceable _ _ _ (s .last .1 .1 .1 .0) _ _ _ _ (s .ensures) (λ e. c .before .before .if1 .left (e ∙ sym (s .kept .1 .1 .1 .0))) (g .slices) (g .times)
+    let g = c .before .before .before .before .before .before .before .before .before .before .before .before .before .before .before .before .before .pre in
+    let s = c .before .before .before .before .before .before .before .before .settle in
+    traceable _ _ _ _ _ _ _ (rw (c .before .before .before .raised .given .1) at (s .ensures)) (g .slices) (g .times)
     (s .kept .1 .1 .1 .1 .0 ∙ length-replicate {A = ℕ} termPlaces 0) (length-replicate {A = ℕ} termPlaces 0)
 
 slice-aggregate-lay : tie.Need-slice-aggregate-lay
@@ -42,9 +48,9 @@ slice-aggregate-lay c = search needs
 
 lay-requires : tie.Need-lay-requires
 lay-requires c κs =
-    let g = c .before .before .before .before .before .before .before .before .before .before .before .before .before .before .before .before .before .before .before .before .pre in
+    let g = c .before .before .before .before .before .before .before .before .before .before .before .before .before .before .before .before .before .before .before .before .before .before .before .pre in
     let r = c .before .before .before .before .before .trace in (
-      numbers-as _ _ _ _ _ (sym (g .labels-length)) (r .ensures .numbers),
+      (numbers-as _ _ _ _ _ (omega arith) (r .ensures .numbers), omega arith),
       omega (arith, g .places, r .ensures .numbers .within, r .kept .1 .1 .1 .1 .1 .0, length-replicate {A = ℕ} termPlaces 0),
     )
 
@@ -60,13 +66,13 @@ same-length-3 : tie.Need-same-length-3
 same-length-3 c = search needs
 
 returns-2 : tie.Need-returns-2
-returns-2 c = cyclic _ refl (laid-shown _ _ _ _ _ _ _ _ _ (c .before .before .before .before .before .before .before .before .trace .ensures .numbers) (c .before .before .before .before .before .before .before .before .trace .ensures .negative) (c .before .before .lay .ensures))
+returns-2 c = cyclic _ refl (laid-shown _ _ _ _ _ _ _ _ _ _ (c .before .before .before .before .before .before .before .before .trace .ensures .numbers) (c .before .before .before .before .before .before .before .before .trace .ensures .negative) (c .before .before .lay .ensures))
 
 same-length-4 : tie.Need-same-length-4
 same-length-4 c = search needs
 
 returns-3 : tie.Need-returns-3
-returns-3 c = absurd (never _ _ _ (c .before .before .before .trace .ensures .negative) (toZ-ofZ (record { sfits = c .before .struct-told .given .1 .1 .0 .1 }) ∙ c .before .before .before .trace .ensures .summed) (c .if2 .left))
+returns-3 c = absurd (never _ _ _ (c .before .before .before .trace .ensures .negative) (toZ-ofZ (record { sfits = c .before .struct-told .given .1 .1 .0 .1 }) ∙ c .before .before .before .trace .ensures .summed) (c .if1 .left))
 
 pub decide-spec : {M : Type 1} → statement M
 decide-spec =
@@ -74,6 +80,8 @@ decide-spec =
     (tie.spec
     slice-aggregate-settle
     settle-requires
+    enum-known-raised
+    enum-told
     same-length
     returns
     slice-aggregate-trace

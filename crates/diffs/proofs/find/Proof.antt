@@ -10,7 +10,7 @@ use Rattle.diffs.proofs.find.Statement.{statement}
 use Rattle.diffs.proofs.find.Tie as tie
 
 abbrev Inv-loop : tie.InvT-loop
-Inv-loop ys w from a q₀ q = (from ≤ q) × (q ≤ length w) × ((k : ℕ) → k < q → from ≤ k → cell ys (cell w k) ≡ a → ⊥)
+Inv-loop ys w from a q₀ q = (from ≤ q) × (q ≤ length w) × ((k : ℕ) → k < q → from ≤ k → cell ys (cell w k) ≡ a .0 → ⊥)
 
 abbrev μ-loop : tie.MeasureT-loop
 μ-loop ys w from a q₀ q = length w - q
@@ -27,21 +27,17 @@ shared-slice-read-e c = omega arith
 cast-e : tie.Need-cast-e Inv-loop μ-loop
 cast-e c = omega (arith, c .shared-slice-known .given (c .before .before .loop .q))
 
-mul-y : tie.Need-mul-y Inv-loop μ-loop
-mul-y c = record { fits = omega (arith, c .shared-slice-known .given (c .before .before .loop .q)) }
+mul-if1 : tie.Need-mul-if1 Inv-loop μ-loop
+mul-if1 c = record { fits = omega (arith, c .shared-slice-known .given (c .before .before .loop .q)) }
 
-shared-slice-read-y : tie.Need-shared-slice-read-y Inv-loop μ-loop
-shared-slice-read-y c = c .before .before .before .before .pre .1 (c .before .before .before .loop .q) (omega arith) (omega arith)
-
-cast-y : tie.Need-cast-y Inv-loop μ-loop
-cast-y c =
-    omega (arith, c .shared-slice-known2 .given (cell (c .before .before .before .before .args .w .now) (c .before .before .before .loop .q)))
+shared-slice-read-if1 : tie.Need-shared-slice-read-if1 Inv-loop μ-loop
+shared-slice-read-if1 c = c .before .before .before .before .pre .1 (c .before .before .before .loop .q) (omega arith) (omega arith)
 
 returns : tie.Need-returns Inv-loop μ-loop
 returns c = record {
   after = omega arith;
   upto = omega arith;
-  unseen = λ k h j. c .before .before .before .before .loop .inv .2 k j h;
+  unseen = λ k h j. c .before .before .before .before .before .loop .inv .2 k j h;
   seen = λ h. c .if1 .taken;
 }
 
@@ -52,7 +48,7 @@ loop-less : tie.Need-loop-less Inv-loop μ-loop
 loop-less c = omega arith
 
 loop-again : tie.Need-loop-again Inv-loop μ-loop
-loop-again c = (omega arith, omega arith, below-more _ _ (c .before .before .before .before .loop .inv .2) (λ h. c .if1 .left))
+loop-again c = (omega arith, omega arith, below-more _ _ (c .before .before .before .before .before .loop .inv .2) (λ h. c .if1 .left))
 
 returns-2 : tie.Need-returns-2 Inv-loop μ-loop
 returns-2 c = record {
@@ -72,9 +68,8 @@ find-spec =
     mul-e
     shared-slice-read-e
     cast-e
-    mul-y
-    shared-slice-read-y
-    cast-y
+    mul-if1
+    shared-slice-read-if1
     returns
     add-q
     loop-less

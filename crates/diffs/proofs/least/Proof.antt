@@ -1,4 +1,4 @@
--- `least`: q has the smallest label of the places passed.
+-- `least`: q has the smallest key of the places passed.
 use borrow.Author.Needs.{needs}
 use borrow.Author.Count.{below-more}
 use mathlib.Core.Path.{_≡_, sym, ap, subst}
@@ -11,41 +11,41 @@ use Rattle.diffs.specs.inner.Answer.{cell}
 use Rattle.diffs.proofs.least.Statement.{statement}
 use Rattle.diffs.proofs.least.Tie as tie
 
--- no label of the places from start to before i is below that of q
+-- no key of the places from start to before i is below that of q
 abbrev LeastTo : List ℕ → List ℕ → ℕ → ℕ → ℕ → Type 0
-LeastTo labels w start q i = (k : ℕ) → k < i → start ≤ k → cell labels (cell w q) ≤ cell labels (cell w k)
+LeastTo keys w start q i = (k : ℕ) → k < i → start ≤ k → cell keys (cell w q) ≤ cell keys (cell w k)
 
 abbrev Inv-loop : tie.InvT-loop
-Inv-loop labels w start end q₀ i₀ q i = (start ≤ q) × (q < i) × (i ≤ end) × LeastTo labels w start q i
+Inv-loop keys w start end q₀ i₀ q i = (start ≤ q) × (q < i) × (i ≤ end) × LeastTo keys w start q i
 
 abbrev μ-loop : tie.MeasureT-loop
-μ-loop labels w start end q₀ i₀ q i = end - i
+μ-loop keys w start end q₀ i₀ q i = end - i
 
-module _ (labels w : List ℕ) (start : ℕ) where
-  one : LeastTo labels w start start (start + 1)
-  one k h j = let e : start ≡ k = omega arith in omega (arith, ap (λ (n : ℕ). cell labels (cell w n)) e)
+module _ (keys w : List ℕ) (start : ℕ) where
+  one : LeastTo keys w start start (start + 1)
+  one k h j = let e : start ≡ k = omega arith in omega (arith, ap (λ (n : ℕ). cell keys (cell w n)) e)
 
-  both : (q q′ i : ℕ) → start ≤ q → q < i → LeastTo labels w start q i
-      → ((cell labels (cell w i) < cell labels (cell w q)) × (q′ ≡ i)) ⊎ ((cell labels (cell w q) ≤ cell labels (cell w i)) × (q′ ≡ q))
-      → (start ≤ q′) × (q′ < i + 1) × LeastTo labels w start q′ (i + 1)
+  both : (q q′ i : ℕ) → start ≤ q → q < i → LeastTo keys w start q i
+      → ((cell keys (cell w i) < cell keys (cell w q)) × (q′ ≡ i)) ⊎ ((cell keys (cell w q) ≤ cell keys (cell w i)) × (q′ ≡ q))
+      → (start ≤ q′) × (q′ < i + 1) × LeastTo keys w start q′ (i + 1)
   both q q′ i g h l (inl c) = (
     omega (arith, c .1),
     omega (arith, c .1),
-    subst (λ (n : ℕ). LeastTo labels w start n (i + 1)) (sym (c .1))
-        (below-more (λ k. start ≤ k → cell labels (cell w i) ≤ cell labels (cell w k)) i (λ k j s. omega (arith, l k j s, c .0)) (λ s. le-refl (cell labels (cell w i)))),
+    subst (λ (n : ℕ). LeastTo keys w start n (i + 1)) (sym (c .1))
+        (below-more (λ k. start ≤ k → cell keys (cell w i) ≤ cell keys (cell w k)) i (λ k j s. omega (arith, l k j s, c .0)) (λ s. le-refl (cell keys (cell w i)))),
   )
   both q q′ i g h l (inr c) = (
     omega (arith, c .1),
     omega (arith, c .1),
-    subst (λ (n : ℕ). LeastTo labels w start n (i + 1)) (sym (c .1))
-        (below-more (λ k. start ≤ k → cell labels (cell w q) ≤ cell labels (cell w k)) i l (λ s. c .0)),
+    subst (λ (n : ℕ). LeastTo keys w start n (i + 1)) (sym (c .1))
+        (below-more (λ k. start ≤ k → cell keys (cell w q) ≤ cell keys (cell w k)) i l (λ s. c .0)),
   )
 
 add-i : tie.Need-add-i Inv-loop μ-loop
 add-i c = omega arith
 
 loop-holds : tie.Need-loop-holds Inv-loop μ-loop
-loop-holds c = (omega arith, omega arith, omega arith, one (c .args .labels .now) (c .args .w .now) (c .args .start))
+loop-holds c = (omega arith, omega arith, omega arith, one (c .args .keys .now) (c .args .w .now) (c .args .start))
 
 mul-a : tie.Need-mul-a Inv-loop μ-loop
 mul-a c = search needs
@@ -87,7 +87,7 @@ loop-again : tie.Need-loop-again Inv-loop μ-loop
 loop-again c =
     let l = c .before .before .before .before .before .before .loop in
     let a = c .before .before .before .before .before .before .before .args in
-    let r = both (a .labels .now) (a .w .now) (a .start) (l .q) (c .if1 .q) (l .i) (l .inv .0) (l .inv .1) (l .inv .3) (⊎-elim (λ w. inl (w .0 .taken, w .1)) (λ w. inr (w .0 .left, w .1)) (c .if1 .came)) in
+    let r = both (a .keys .now) (a .w .now) (a .start) (l .q) (c .if1 .q) (l .i) (l .inv .0) (l .inv .1) (l .inv .3) (⊎-elim (λ w. inl (w .0 .taken, w .1)) (λ w. inr (w .0 .left, w .1)) (c .if1 .came)) in
     (r .0, r .1, omega arith, r .2)
 
 returns : tie.Need-returns Inv-loop μ-loop

@@ -20,6 +20,12 @@ kept : (t p : List ℕ) (x y : ℕ) (k : ℤ) (i u d : ℕ) → u ≡ up k → d
     → Relaxed false (record { x = x; y = y; k = k }) i t p t p
 kept t p x y k i u d e f h = (omega arith, refl, refl)
 
+cast-from : tie.Need-cast-from
+cast-from c = search needs
+
+cast-to : tie.Need-cast-to
+cast-to c = search needs
+
 up-of-requires : tie.Need-up-of-requires
 up-of-requires c κs = search needs
 
@@ -34,7 +40,7 @@ slice-read-a c = search needs
 
 add-a : tie.Need-add-a
 add-a c =
-    let s = c .before .before .before .before .before in
+    let s = c .before .before .before .before .before .before .before in
     record { fits = omega (arith, s .pre .1 .0, down-small (s .args .k) (s .fits .k), c .before .down-of .ensures ∙ ap down (back32 (s .fits .k))) }
 
 mul-b : tie.Need-mul-b
@@ -45,7 +51,7 @@ slice-read-b c = search needs
 
 add-b : tie.Need-add-b
 add-b c =
-    let s = c .before .before .before .before .before .before in
+    let s = c .before .before .before .before .before .before .before .before in
     record { fits = omega (arith, s .pre .1 .1, up-small (s .args .k) (s .fits .k), c .before .before .before .up-of .ensures ∙ ap up (back32 (s .fits .k))) }
 
 sub-t : tie.Need-sub-t
@@ -71,18 +77,20 @@ same-length-2 c = search needs
 
 returns : tie.Need-returns
 returns c =
-    let s = c .before .before .before .before .before .before .before in
-    raised (s .args .t .now) (s .args .p .now) (s .args .x) (s .args .y) (s .args .k) (s .args .i) _ _ (c .before .before .before .before .up-of .ensures ∙ ap up (back32 (s .fits .k))) (c .before .before .before .down-of .ensures ∙ ap down (back32 (s .fits .k))) (c .if1 .taken)
+    let s = c .before .before .before .before .before .before .before .before .before in
+    raised (s .args .t .now) (s .args .p .now) (s .args .x .0) (s .args .y .0) (s .args .k) (s .args .i) _ _ (c .before .before .before .before .up-of .ensures ∙ ap up (back32 (s .fits .k))) (c .before .before .before .down-of .ensures ∙ ap down (back32 (s .fits .k))) (c .if1 .taken)
 
 returns-2 : tie.Need-returns-2
 returns-2 c =
-    let s = c .before .before .before .before .before .before .before in
-    kept (s .args .t .now) (s .args .p .now) (s .args .x) (s .args .y) (s .args .k) (s .args .i) _ _ (c .before .before .before .before .up-of .ensures ∙ ap up (back32 (s .fits .k))) (c .before .before .before .down-of .ensures ∙ ap down (back32 (s .fits .k))) (c .if1 .left)
+    let s = c .before .before .before .before .before .before .before .before .before in
+    kept (s .args .t .now) (s .args .p .now) (s .args .x .0) (s .args .y .0) (s .args .k) (s .args .i) _ _ (c .before .before .before .before .up-of .ensures ∙ ap up (back32 (s .fits .k))) (c .before .before .before .down-of .ensures ∙ ap down (back32 (s .fits .k))) (c .if1 .left)
 
 pub relax-spec : {M : Type 1} → statement M
 relax-spec =
     tie.close
     (tie.spec
+    cast-from
+    cast-to
     up-of-requires
     down-of-requires
     mul-a

@@ -28,17 +28,11 @@ mul-x c = search needs
 shared-slice-read-x : tie.Need-shared-slice-read-x Inv-loop μ-loop
 shared-slice-read-x c = omega (arith, c .before .before .before .before .before .before .before .pre .slices .xs-length)
 
-cast-x : tie.Need-cast-x Inv-loop μ-loop
-cast-x c = omega (arith, c .shared-slice-known3 .given (c .before .before .loop .i))
-
 mul-y : tie.Need-mul-y Inv-loop μ-loop
 mul-y c = search needs
 
 shared-slice-read-y : tie.Need-shared-slice-read-y Inv-loop μ-loop
 shared-slice-read-y c = omega (arith, c .before .before .before .before .before .before .before .before .pre .slices .ys-length)
-
-cast-y : tie.Need-cast-y Inv-loop μ-loop
-cast-y c = omega (arith, c .shared-slice-known4 .given (c .before .before .before .loop .i))
 
 mul-relax : tie.Need-mul-relax Inv-loop μ-loop
 mul-relax c = search needs
@@ -108,10 +102,8 @@ round-spec =
     loop-holds
     mul-x
     shared-slice-read-x
-    cast-x
     mul-y
     shared-slice-read-y
-    cast-y
     mul-relax
     shared-slice-copy-out-relax
     cast-relax

@@ -1,4 +1,5 @@
 -- `trace`: what w has from `start` on are the parents from `last` back to a, all of different names.
+use borrow.Author.Needs.{needs}
 use mathlib.Core.Path.{_≡_, refl, _∙_}
 use Prim.Native.Nat.{ℕ, _-_, _<_, _≤_}
 use native.Mathlib.Omega.{arith}
@@ -11,11 +12,11 @@ use Rattle.diffs.proofs.trace.Statement.{statement}
 use Rattle.diffs.proofs.trace.Tie as tie
 
 abbrev Inv-loop : tie.InvT-loop
-Inv-loop xs ys ks p last w₀ top a₀ start₀ w a start =
-    (start ≤ length w) × (length w ≡ top) × Tracing (length ks) (length p) (diffAt xs ys ks) last p a (drop start w)
+Inv-loop xs ys ks p w₀ top last start₀ w a start =
+    (start ≤ length w) × (length w ≡ top) × Tracing (length ks) (length p) (diffAt xs ys ks) (last .0) p (a .0) (drop start w)
 
 abbrev μ-loop : tie.MeasureT-loop
-μ-loop xs ys ks p last w₀ top a₀ start₀ w a start = start
+μ-loop xs ys ks p w₀ top last start₀ w a start = start
 
 -- a name came twice
 module _ (c : tie.Then1 Inv-loop μ-loop) where
@@ -30,13 +31,13 @@ module _ (c : tie.Then1 Inv-loop μ-loop) where
 
 -- a is a new name
 module _ (c : tie.Else1 Inv-loop μ-loop) where
-  unseen : (k : ℕ) → c .before .before .before .loop .start ≤ k → k < length (c .before .before .before .loop .w) → cell (c .before .before .before .before .before .before .before .before .args .ys .now) (cell (c .before .before .before .loop .w) k) ≡ c .before .before .before .loop .a → ⊥
+  unseen : (k : ℕ) → c .before .before .before .loop .start ≤ k → k < length (c .before .before .before .loop .w) → cell (c .before .before .before .before .before .before .before .before .args .ys .now) (cell (c .before .before .before .loop .w) k) ≡ c .before .before .before .loop .a .0 → ⊥
   unseen k h j = c .before .find .ensures .unseen k h (omega (arith, c .before .find .ensures .upto))
 
   left : 1 ≤ c .before .before .before .loop .start
   left = room-left _ _ _ _ _ _ _ _ (c .before .before .before .loop .inv .0) (c .before .before .before .loop .inv .2) unseen (omega (arith, c .before .before .before .before .before .before .before .before .pre .room))
 
-  below : cell (c .before .before .before .before .before .before .before .before .args .p .now) (c .before .before .before .loop .a) < length (c .before .before .before .before .before .before .before .before .args .ks .now)
+  below : cell (c .before .before .before .before .before .before .before .before .args .p .now) (c .before .before .before .loop .a .0) < length (c .before .before .before .before .before .before .before .before .args .ks .now)
   below = parent-at _ _ _ _ _ _ _ _ (c .before .before .before .loop .inv .0) (c .before .before .before .loop .inv .2) unseen
 
 loop-holds : tie.Need-loop-holds Inv-loop μ-loop
@@ -68,42 +69,42 @@ returns c =
       summed = toZ-ofZ (record { sfits = c .sum-of .ok }) ∙ c .sum-of .ensures (c .before .before .before .before .before .before .before .before .before .before .args .xs .now) (c .before .before .before .before .before .before .before .before .before .before .args .ys .now);
     }
 
+cast-at : tie.Need-cast-at Inv-loop μ-loop
+cast-at c = search needs
+
 mul-e : tie.Need-mul-e Inv-loop μ-loop
-mul-e c = record { fits = omega (arith, c .before .before .before .loop .inv .2 .back .name) }
+mul-e c = record { fits = omega (arith, c .before .before .before .before .loop .inv .2 .back .name) }
 
 shared-slice-read-e : tie.Need-shared-slice-read-e Inv-loop μ-loop
-shared-slice-read-e c = c .before .before .before .before .loop .inv .2 .back .name
+shared-slice-read-e c = c .before .before .before .before .before .loop .inv .2 .back .name
 
 sub-start : tie.Need-sub-start Inv-loop μ-loop
-sub-start c = left (c .before)
+sub-start c = left (c .before .before)
 
 mul-w : tie.Need-mul-w Inv-loop μ-loop
-mul-w c = record { fits = omega (arith, c .before .before .before .before .loop .inv .0) }
+mul-w c = record { fits = omega (arith, c .before .before .before .before .before .loop .inv .0) }
 
 slice-write-w : tie.Need-slice-write-w Inv-loop μ-loop
-slice-write-w c = omega (arith, left (c .before), c .before .before .before .before .loop .inv .0)
+slice-write-w c = omega (arith, left (c .before .before), c .before .before .before .before .before .loop .inv .0)
 
-cast-a : tie.Need-cast-a Inv-loop μ-loop
-cast-a c = record { fits = omega (arith, below (c .before), c .before .before .before .before .before .before .before .before .before .pre .slices .few) }
+cast-x : tie.Need-cast-x Inv-loop μ-loop
+cast-x c = record { fits = omega (arith, below (c .before .before), c .before .before .before .before .before .before .before .before .before .before .pre .slices .few) }
 
-mul-a : tie.Need-mul-a Inv-loop μ-loop
-mul-a c = record { fits = omega (arith, below (c .before), c .before .before .before .before .before .before .before .before .before .pre .slices .few) }
+mul-x : tie.Need-mul-x Inv-loop μ-loop
+mul-x c = record { fits = omega (arith, below (c .before .before), c .before .before .before .before .before .before .before .before .before .before .pre .slices .few) }
 
-shared-slice-read-a : tie.Need-shared-slice-read-a Inv-loop μ-loop
-shared-slice-read-a c = omega (arith, below (c .before .before), c .before .before .before .before .before .before .before .before .before .before .pre .slices .xs-length)
-
-cast-a-2 : tie.Need-cast-a-2 Inv-loop μ-loop
-cast-a-2 c = omega (arith, c .shared-slice-known5 .given (cell (c .before .before .before .before .before .before .before .before .before .before .args .p .now) (c .before .before .before .before .before .loop .a)))
+shared-slice-read-x : tie.Need-shared-slice-read-x Inv-loop μ-loop
+shared-slice-read-x c = omega (arith, below (c .before .before .before), c .before .before .before .before .before .before .before .before .before .before .before .pre .slices .xs-length)
 
 loop-less : tie.Need-loop-less Inv-loop μ-loop
-loop-less c = omega (arith, left (c .before .before))
+loop-less c = omega (arith, left (c .before .before .before))
 
 loop-again : tie.Need-loop-again Inv-loop μ-loop
 loop-again c =
-    let l = c .before .before .before .before .before .loop in (
+    let l = c .before .before .before .before .before .before .loop in (
       simp length-set (omega (arith, l .inv .0)),
       length-set (l .w) (l .start - 1) _ ∙ l .inv .1,
-      onward-at _ _ _ _ _ _ _ _ (l .inv .0) (l .inv .2) (unseen (c .before .before)) (left (c .before .before)),
+      onward-at _ _ _ _ _ _ _ _ (l .inv .0) (l .inv .2) (unseen (c .before .before .before)) (left (c .before .before .before)),
     )
 
 pub trace-spec : {M : Type 1} → statement M
@@ -118,14 +119,14 @@ trace-spec =
     sum-of-requires
     same-length
     returns
+    cast-at
     mul-e
     shared-slice-read-e
     sub-start
     mul-w
     slice-write-w
-    cast-a
-    mul-a
-    shared-slice-read-a
-    cast-a-2
+    cast-x
+    mul-x
+    shared-slice-read-x
     loop-less
     loop-again)

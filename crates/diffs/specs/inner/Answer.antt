@@ -32,24 +32,25 @@ pub record Slices (n : ℕ) (xs ys : List ℕ) (ks : List ℤ) : Type 0 where
   pub ys-length : length ys ≡ length ks
   pub named : (j : ℕ) → j < length ks → (cell xs j < n) × (cell ys j < n)
 
--- what `decide` takes: differences with a label each, times that are all 0, and a cycle room
-pub record Given (xs ys : List ℕ) (ks : List ℤ) (labels t room : List ℕ) : Type 0 where
+-- what `decide` takes: differences with a key and a label each, times that are all 0, and a cycle room
+pub record Given (xs ys : List ℕ) (ks : List ℤ) (keys labels t room : List ℕ) : Type 0 where
   pub slices : Slices termPlaces xs ys ks
+  pub keys-length : length keys ≡ length ks
   pub labels-length : length labels ≡ length ks
   pub times : length t ≡ termPlaces
   pub zeros : (a : ℕ) → cell t a ≡ 0
   pub places : cycleRoom ≤ length room
 
--- a negative cycle of n differences: their labels, the smallest first, stand in the first n places of the room, and past these nothing changes
-pub record Shown (m : ℕ) (c : ℕ → Diff) (labels room room′ : List ℕ) (n : ℕ) : Type 0 where
+-- a negative cycle of n differences, the smallest key first: their labels stand in the first n places of the room, and past these nothing changes
+pub record Shown (m : ℕ) (c : ℕ → Diff) (keys labels room room′ : List ℕ) (n : ℕ) : Type 0 where
   pub numbers : List ℕ
   pub within : All (λ i. i < m) numbers
   pub negative : NegCycle (Among m c) (map c numbers)
   pub count : n ≡ length numbers
-  pub least : LeastFirst (map (cell labels) numbers)
+  pub least : LeastFirst (map (cell keys) numbers)
   pub shown : room′ ≡ map (cell labels) numbers ++ drop n room
 
 -- what `decide` gives, of the differences c 0, .., c (m - 1): the earliest times stand in t and the room is as it was, or a negative cycle is shown
-pub data Decided (o : Outcome) (m : ℕ) (c : ℕ → Diff) (labels t room room′ : List ℕ) : Type 0 where
-  timed : o ≡ Times → Earliest (Among m c) (cell t) → room′ ≡ room → Decided o m c labels t room room′
-  cyclic : (n : ℕ) → o ≡ Cycle n → Shown m c labels room room′ n → Decided o m c labels t room room′
+pub data Decided (o : Outcome) (m : ℕ) (c : ℕ → Diff) (keys labels t room room′ : List ℕ) : Type 0 where
+  timed : o ≡ Times → Earliest (Among m c) (cell t) → room′ ≡ room → Decided o m c keys labels t room room′
+  cyclic : (n : ℕ) → o ≡ Cycle n → Shown m c keys labels room room′ n → Decided o m c keys labels t room room′

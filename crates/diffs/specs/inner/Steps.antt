@@ -2,7 +2,7 @@
 use mathlib.Core.Path.{_≡_}
 use mathlib.Core.Bool.{Bool, true, false}
 use mathlib.Core.List.{List, _++_, map}
-use mathlib.Core.Logic.{_⊎_, _≢_}
+use mathlib.Core.Logic.{_⊎_}
 use Prim.Native.Nat.{ℕ, suc, _+_, _-_, _*_, _≤_, _<_}
 use lib.ListN.{set, length, drop}
 use lib.Seq.{slice}
@@ -10,6 +10,8 @@ use lib.IntN.{ℤ, pos, negsuc}
 use Rattle.faults.specs.inner.Places.{termPlaces}
 use Rattle.diffs.specs.Diff.{Diff, Earliest, Sum, NegCycle}
 use Rattle.diffs.specs.inner.Answer.{cell, diffAt, Among, Slices}
+use Rattle.diffs.specs.declared.Raised.{Raised}
+use Rattle.diffs.specs.declared.Raised.the-variants.{Quiet, Name}
 
 -- ---- a bound as two naturals: z is `up z` less `down z`, one of which is 0
 
@@ -57,24 +59,33 @@ pub record Inv (m : ℕ) (c : ℕ → Diff) (b i : ℕ) (t p s : ℕ → ℕ) : 
   pub done : (j : ℕ) → j < i → Holds t (c j) ⊎ (b + j < s (c j .x))
   pub todo : (j : ℕ) → i ≤ j → j < m → Holds t (c j) ⊎ (b + j < s (c j .x) + m)
 
--- before round r, counted from 0; the round before it raised the name `last` last
-pub record BeforeRound (m n : ℕ) (c : ℕ → Diff) (r last : ℕ) (t p : List ℕ) : Type 0 where
+-- what the round before round r, counted from 0, raised last: nothing before the first round, else a name, in the last m steps
+abbrev pub RaisedBefore : (m n r : ℕ) → (ℕ → ℕ) → Raised → Type 0
+RaisedBefore m n r s Quiet = r ≡ 0
+RaisedBefore m n r s (Name a) = (a .0 < n) × (r * m < s (a .0) + m)
+
+-- before round r; the round before it raised `last` last
+pub record BeforeRound (m n : ℕ) (c : ℕ → Diff) (r : ℕ) (last : Raised) (t p : List ℕ) : Type 0 where
   pub s : ℕ → ℕ
   pub inv : Inv m c (r * m) 0 (cell t) (cell p) s
   pub times : length t ≡ n
   pub parents : length p ≡ n
   pub bound : (a : ℕ) → cell t a ≤ (r * m) * mostDown
-  pub late : 0 < r → (last < n) × (r * m < s last + m)
+  pub late : RaisedBefore m n r s last
 
--- in round r, before difference i; last is n where the round has raised none
-pub record Mid (m n : ℕ) (c : ℕ → Diff) (r i last : ℕ) (t p : List ℕ) : Type 0 where
+-- what the differences below i raised last in the round whose first step is b + 1: nothing, then each is kept, or a name, in that round
+abbrev pub RaisedIn : (n b i : ℕ) → (ℕ → Diff) → (t s : ℕ → ℕ) → Raised → Type 0
+RaisedIn n b i c t s Quiet = (j : ℕ) → j < i → Holds t (c j)
+RaisedIn n b i c t s (Name a) = (a .0 < n) × (b < s (a .0))
+
+-- in round r, before difference i; it has raised `last` last
+pub record Mid (m n : ℕ) (c : ℕ → Diff) (r i : ℕ) (last : Raised) (t p : List ℕ) : Type 0 where
   pub s : ℕ → ℕ
   pub inv : Inv m c (r * m) i (cell t) (cell p) s
   pub times : length t ≡ n
   pub parents : length p ≡ n
   pub bound : (a : ℕ) → cell t a ≤ (r * m + i) * mostDown
-  pub none : last ≡ n → (j : ℕ) → j < i → Holds (cell t) (c j)
-  pub some : last ≢ n → (last < n) × (r * m < s last)
+  pub raised : RaisedIn n (r * m) i c (cell t) s last
 
 -- what `round` starts from
 pub record Underway (xs ys : List ℕ) (ks : List ℤ) (t p : List ℕ) : Type 0 where
@@ -82,12 +93,12 @@ pub record Underway (xs ys : List ℕ) (ks : List ℤ) (t p : List ℕ) : Type 0
   pub names : length t ≤ termPlaces
   pub r : ℕ
   pub early : r ≤ length t
-  pub before : ℕ
+  pub before : Raised
   pub state : BeforeRound (length ks) (length t) (diffAt xs ys ks) r before t p
 
 -- the differences below i of a round, whichever round it is, make t′ and p′ of t and p, and raise `last` last
-abbrev pub RoundUpTo : ℕ → ℕ → (ℕ → Diff) → ℕ → ℕ → List ℕ → List ℕ → List ℕ → List ℕ → Type 0
-RoundUpTo m n c i last t p t′ p′ = (r before : ℕ) → BeforeRound m n c r before t p → Mid m n c r i last t′ p′
+abbrev pub RoundUpTo : ℕ → ℕ → (ℕ → Diff) → ℕ → Raised → List ℕ → List ℕ → List ℕ → List ℕ → Type 0
+RoundUpTo m n c i last t p t′ p′ = (r : ℕ) (before : Raised) → BeforeRound m n c r before t p → Mid m n c r i last t′ p′
 
 -- what `settle` starts from
 pub record Fresh (xs ys : List ℕ) (ks : List ℤ) (t p : List ℕ) : Type 0 where
@@ -105,9 +116,10 @@ pub record Stuck (m n : ℕ) (c : ℕ → Diff) (last : ℕ) (p : List ℕ) : Ty
   pub name : last < n
   pub late : n * m < s last
 
--- n: settled, with the earliest times; below n: stuck, with the name that was raised last
-abbrev pub SettledOrStuck : (m n : ℕ) → (ℕ → Diff) → ℕ → List ℕ → List ℕ → Type 0
-SettledOrStuck m n c r t p = ((r ≡ n) × Earliest (Among m c) (cell t)) ⊎ Stuck m n c r p
+-- nothing was raised: settled, with the earliest times; else stuck, with the name that was raised last
+abbrev pub SettledOrStuck : (m n : ℕ) → (ℕ → Diff) → Raised → List ℕ → List ℕ → Type 0
+SettledOrStuck m n c Quiet t p = Earliest (Among m c) (cell t)
+SettledOrStuck m n c (Name a) t p = Stuck m n c (a .0) p
 
 -- ---- following the parents
 
@@ -139,19 +151,19 @@ pub record Traced (m : ℕ) (c : ℕ → Diff) (w : List ℕ) (start end : ℕ) 
 
 -- ---- showing the cycle
 
--- q is a place of the part, and the label there is the least of the part
-pub record LeastLabel (labels w : List ℕ) (start end q : ℕ) : Type 0 where
+-- q is a place of the part, and the key there is the least of the part
+pub record LeastKey (keys w : List ℕ) (start end q : ℕ) : Type 0 where
   pub from : start ≤ q
   pub before : q < end
-  pub least : (k : ℕ) → start ≤ k → k < end → cell labels (cell w q) ≤ cell labels (cell w k)
+  pub least : (k : ℕ) → start ≤ k → k < end → cell keys (cell w q) ≤ cell keys (cell w k)
 
 -- the part of w, from its place q on and round to it
 abbrev pub turned : List ℕ → ℕ → ℕ → ℕ → List ℕ
 turned w start end q = slice q end w ++ slice start q w
 
--- the part's labels, from the least on and round to it, stand in the room's first places
-pub record Laid (labels w : List ℕ) (start end : ℕ) (room room′ : List ℕ) (r : ℕ) : Type 0 where
+-- the part's labels, from the least key on and round to it, stand in the room's first places
+pub record Laid (keys labels w : List ℕ) (start end : ℕ) (room room′ : List ℕ) (r : ℕ) : Type 0 where
   pub first : ℕ
-  pub least : LeastLabel labels w start end first
+  pub least : LeastKey keys w start end first
   pub count : r ≡ end - start
   pub shown : room′ ≡ map (cell labels) (turned w start end first) ++ drop (end - start) room
