@@ -1,10 +1,10 @@
--- From a name that round n + 1 of n names still raised, the parents lead to a negative cycle.
--- A parent is at most m steps older, so enough parents stand in a row for a name to come twice; on a closed row some parent was raised after its
--- child, and that difference is slack, so the bounds sum below zero.
-use mathlib.Core.Path.{_≡_, refl, ap, subst, sym}
+-- From a name that was still raised after as many rounds as the fewer of names and differences, the parents lead to a negative cycle.
+-- A parent is at most m steps older, so enough parents stand in a row for a name to come twice: parents of different names are different differences,
+-- of which there are m. On a closed row some parent was raised after its child, and that difference is slack, so the bounds sum below zero.
+use mathlib.Core.Path.{_≡_, refl, ap, subst, sym, _∙_}
 use mathlib.Core.Logic.{_⊎_, inl, inr, ⊎-elim}
 use mathlib.Core.List.{List, [], _∷_}
-use Prim.Native.Nat.{ℕ, _+_, _*_, _≤_, _<_}
+use Prim.Native.Nat.{ℕ, suc, _+_, _*_, _≤_, _<_, min}
 use native.Mathlib.Nat.{zero-mul, suc-mul, mul-le-mul-right}
 use native.Mathlib.Omega.{arith}
 use native.Mathlib.Decide.{decLe}
@@ -71,6 +71,37 @@ module _ (m : ℕ) (c : ℕ → Diff) (b i : ℕ) (t p s : ℕ → ℕ) (v : Inv
     below = closed-below a es n q u;
   }
 
+  -- ---- parents of different names have different numbers
+
+  numbersOf : (es : List Diff) → All Used es → List ℕ
+  numbersOf [] u = []
+  numbersOf (d ∷ es) u = p (u .0 .of) ∷ numbersOf es (u .1)
+
+  numbers-length : (es : List Diff) (u : All Used es) → length (numbersOf es u) ≡ length es
+  unfolding numbersOf
+  numbers-length [] u = refl
+  numbers-length (d ∷ es) u = ap suc (numbers-length es (u .1))
+
+  numbers-below : (es : List Diff) (u : All Used es) → All (λ j. j < m) (numbersOf es u)
+  unfolding numbersOf
+  numbers-below [] u = tt
+  numbers-below (d ∷ es) u = (v .index (u .0 .of) (u .0 .high), numbers-below es (u .1))
+
+  number-new : (j : ℕ) (es : List Diff) (u : All Used es) → NotIn (c j .y) (ysOf es) → NotIn j (numbersOf es u)
+  unfolding numbersOf
+  number-new j [] u h = tt
+  number-new j (d ∷ es) u h =
+      (λ e. h .0 (ap (λ (i : ℕ). c i .y) e ∙ ap (λ (f : Diff). f .y) (u .0 .is)), number-new j es (u .1) (h .1))
+
+  numbers-different : (es : List Diff) (u : All Used es) → Distinct (ysOf es) → Distinct (numbersOf es u)
+  unfolding numbersOf
+  numbers-different [] u h = tt
+  numbers-different (d ∷ es) u h =
+      (number-new (p (u .0 .of)) es (u .1) (subst (λ (f : Diff). NotIn (f .y) (ysOf es)) (sym (u .0 .is)) (h .0)), numbers-different es (u .1) (h .1))
+
+  few : (es : List Diff) → All Used es → Distinct (ysOf es) → length es ≤ m
+  few es u h = omega (arith, pigeon m (numbersOf es u) (numbers-different es u h) (numbers-below es u), numbers-length es u)
+
   -- ---- the walk: es are the parents from `last` back to a
 
   module _ (n last : ℕ) (named : (j : ℕ) → j < m → (c j .x < n) × (c j .y < n)) where
@@ -79,9 +110,9 @@ module _ (m : ℕ) (c : ℕ → Diff) (b i : ℕ) (t p s : ℕ → ℕ) (v : Inv
       pub used : All Used es
       pub different : Distinct (ysOf es)
       pub name : a < n
-      pub late : n * m < s a + length es * m
+      pub late : min n m * m < s a + length es * m
 
-    pub begins : last < n → n * m < s last → Back last []
+    pub begins : last < n → min n m * m < s last → Back last []
     begins h g = record { path = refl; used = tt; different = tt; name = h; late = omega (arith, zero-mul m) }
 
     ys-below : (es : List Diff) → All Used es → All (λ a. a < n) (ysOf es)
@@ -96,7 +127,7 @@ module _ (m : ℕ) (c : ℕ → Diff) (b i : ℕ) (t p s : ℕ → ℕ) (v : Inv
 
     pub high : (a : ℕ) (es : List Diff) → Back a es → NotIn a (ysOf es) → 0 < s a
     high a es w h =
-        let k : length es ≤ n = omega (arith, short a es w h) in
+        let k : length es ≤ min n m = omega (arith, short a es w h, few es (w .used) (w .different)) in
         omega (arith, w .late, mul-le-mul-right m k)
 
     pub more : (a : ℕ) (es : List Diff) → Back a es → NotIn a (ysOf es) → Back (c (p a) .x) (c (p a) ∷ es)

@@ -4,7 +4,7 @@ use mathlib.Core.Path.{_≡_, refl, ap, subst, sym, _∙_, fun-ext}
 use mathlib.Core.Bool.{Bool, true, false}
 use mathlib.Core.Logic.{_⊎_, inl, inr}
 use mathlib.Core.List.{List}
-use Prim.Native.Nat.{ℕ, _+_, _-_, _*_, _^_, _≤_, _<_}
+use Prim.Native.Nat.{ℕ, _+_, _-_, _*_, _^_, _≤_, _<_, min}
 use native.Mathlib.Nat.{zero-mul, suc-mul, mul-le-mul}
 use native.Mathlib.Numerals.{add-one}
 use native.Mathlib.Omega.{arith}
@@ -132,11 +132,11 @@ module _ (m n : ℕ) (c : ℕ → Diff) where
     late = (v .raised .0, omega (arith, v .raised .1, more-mul r m));
   }
 
-  -- round n + 1 raised something
-  pub stuck : (r : ℕ) (last : Raised) (t p : List ℕ) → BeforeRound m n c r last t p → r ≡ n + 1 → SettledOrStuck m n c last t p
+  -- round min n m + 1 raised something
+  pub stuck : (r : ℕ) (last : Raised) (t p : List ℕ) → BeforeRound m n c r last t p → r ≡ min n m + 1 → SettledOrStuck m n c last t p
   stuck r Quiet t p v e = let w : ⊥ = omega (arith, v .late) in absurd w
   stuck r (Name a) t p v e =
-      record { t = cell t; s = v .s; b = r * m; inv = v .inv; name = v .late .0; late = omega (arith, v .late .1, more-mul n m, ap (λ (k : ℕ). k * m) e) }
+      record { t = cell t; s = v .s; b = r * m; inv = v .inv; name = v .late .0; late = omega (arith, v .late .1, more-mul (min n m) m, ap (λ (k : ℕ). k * m) e) }
 
 -- ---- `round` as `settle` calls it, where the count of names is the length of t
 

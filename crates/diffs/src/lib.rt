@@ -2,7 +2,7 @@
 // Difference number i is xs[i] - ys[i] ≤ ks[i]. A cycle is shown from its smallest keys[i] on, and labels[i] is the number that shows the difference.
 ghost use mathlib.Core.Path.{_≡_};
 ghost use mathlib.Core.List.{List, map};
-ghost use Prim.Native.Nat.{ℕ, _-_, _<_, _≤_, _^_};
+ghost use Prim.Native.Nat.{ℕ, _-_, _<_, _≤_, _^_, min};
 ghost use lib.ListN.{length};
 ghost use lib.Seq.{slice};
 ghost use Rattle.faults.specs.inner.Places.{termPlaces};
@@ -78,15 +78,23 @@ fn round(xs: &[u32], ys: &[u32], ks: &[i32], t: &mut [u64], p: &mut [u32]) -> Ra
     last
 }
 
-// Nothing, after the first round that raises nothing: t has the earliest times. Or the name that round n + 1 of n names still raised.
+// The smaller of two counts.
+fn fewer(a: usize, b: usize) -> usize
+    ensures { λ r. ⌜ r ≡ min a b ⌝ }
+{
+    if a < b { a } else { b }
+}
+
+// Nothing: t has the earliest times. Or a name: it was raised in the round after as many rounds as the fewer of names and differences.
 fn settle(xs: &[u32], ys: &[u32], ks: &[i32], t: &mut [u64], p: &mut [u32]) -> Raised
     requires { ⌜ Fresh (now xs) (now ys) (now ks) (now t) (now p) ⌝ }
     ensures { λ r. ⌜ SettledOrStuck (length (now (ks .entry))) (length (now (t .entry))) (diffAt (now (xs .entry)) (now (ys .entry)) (now (ks .entry))) r (now (t .exit)) (now (p .exit)) ⌝ }
 {
     let n = t.len();
+    let most = fewer(n, ks.len());
     let mut last = Raised::Quiet;
     let mut r: usize = 0;
-    while r <= n {
+    while r <= most {
         last = round(xs, ys, ks, t, p);
         if let Raised::Quiet = last {
             return Raised::Quiet;

@@ -3,7 +3,7 @@ use mathlib.Core.Path.{_≡_}
 use mathlib.Core.Bool.{Bool, true, false}
 use mathlib.Core.List.{List, _++_, map}
 use mathlib.Core.Logic.{_⊎_}
-use Prim.Native.Nat.{ℕ, suc, _+_, _-_, _*_, _≤_, _<_}
+use Prim.Native.Nat.{ℕ, suc, _+_, _-_, _*_, _≤_, _<_, min}
 use lib.ListN.{set, length, drop}
 use lib.Seq.{slice}
 use lib.IntN.{ℤ, pos, negsuc}
@@ -107,14 +107,14 @@ pub record Fresh (xs ys : List ℕ) (ks : List ℤ) (t p : List ℕ) : Type 0 wh
   pub parents : length p ≡ length t
   pub zeros : (a : ℕ) → cell t a ≡ 0
 
--- round n + 1 still raised `last`
+-- after as many rounds as the fewer of names and differences, one more raised `last`
 pub record Stuck (m n : ℕ) (c : ℕ → Diff) (last : ℕ) (p : List ℕ) : Type 0 where
   pub t : ℕ → ℕ
   pub s : ℕ → ℕ
   pub b : ℕ
   pub inv : Inv m c b 0 t (cell p) s
   pub name : last < n
-  pub late : n * m < s last
+  pub late : min n m * m < s last
 
 -- nothing was raised: settled, with the earliest times; else stuck, with the name that was raised last
 abbrev pub SettledOrStuck : (m n : ℕ) → (ℕ → Diff) → Raised → List ℕ → List ℕ → Type 0
