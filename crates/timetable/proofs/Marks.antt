@@ -52,8 +52,8 @@ marks-ascend i low high (b ∷ bs) l h =
     go true u v = rw (le-leb low i l, le-leb i high (omega arith)) u
     go false u v = v
 
--- the marked numbers from low on ascend strictly, and none is above the last place
-pub marked-ascend : (map : List ℕ) (low high : ℕ) → length map ≡ high + 1 → low ≤ high + 1
+-- the marked numbers from low on ascend strictly, and none is above the last that has a place
+pub marked-ascend : (map : List ℕ) (low high : ℕ) → length map ≤ high + 1 → low ≤ high + 1
     → ascends low high (markedFrom low map) ≡ true
 unfolding markedFrom
 marked-ascend map low high e l =

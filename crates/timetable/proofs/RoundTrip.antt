@@ -44,7 +44,7 @@ marks-in-time i (b ∷ bs) time h =
     go false l r = r
 
 -- marked names with timely times, and marked atoms, are a content within the bounds
-given-within : (names times atoms : List ℕ) → Timely names times → length names ≡ termPlaces → length atoms ≡ atomPlaces
+given-within : (names times atoms : List ℕ) → Timely names times → length names ≤ termPlaces → length atoms ≤ atomPlaces
     → within (given names times atoms) ≡ true
 unfolding given markedFrom
 given-within names times atoms q n m =
@@ -106,7 +106,7 @@ unfolding timeOf
 read-table c h u = let r = read-back c h in rw (r .is) (ap (λ (d : Content). timeAmong u (d .records)) (r .content))
 
 -- the round trip: from a written table the time of each marked name is read back, and for every other number 21
-pub round-trip : (names times atoms : List ℕ) → Timely names times → length names ≡ termPlaces → length atoms ≡ atomPlaces
+pub round-trip : (names times atoms : List ℕ) → Timely names times → length names ≤ termPlaces → length atoms ≤ atomPlaces
     → (u : ℕ) → timeOf (tableOf (given names times atoms)) u ≡ pick (isMarked names u) (got (timeAt times u)) (refused 21 u)
 unfolding given markedFrom
 round-trip names times atoms q n m u =

@@ -1,4 +1,4 @@
--- Runs of stores: one run behind another, and a run in a part of a room.
+-- Runs of stores: one run behind another or before it, and a run in a part of a room.
 use Prim.Native.Nat.{ℕ, suc, _+_, _-_, _≤_}
 use mathlib.Core.Path.{_≡_, refl, _∙_}
 use mathlib.Core.List.{List, [], _∷_, _++_, append-nil}
@@ -6,12 +6,21 @@ use native.Mathlib.Omega.{arith}
 use native.Mathlib.Nat.{zero-add}
 use lib.ListN.{length, set, take, drop, length-drop, drop-of-length-le, take-append-drop}
 use lib.Seq.{sets, take-all, length-take-le}
-use Rattle.basics.proofs.Lists.{sets-append}
+use Rattle.basics.proofs.Lists.{sets-append, sets-before}
 
 -- a run that is stored where the run before it ends is one run with it
 pub sets-next : (l r : List ℕ) (o p : ℕ) (xs ys : List ℕ) → r ≡ sets l o xs → p ≡ o + length xs
     → sets r p ys ≡ sets l o (xs ++ ys)
 sets-next l r o p xs ys e h = rw (e, h) (sets-append l o xs ys)
+
+sets-swap : (l : List ℕ) (i p : ℕ) (xs ys : List ℕ) → i + length ys ≤ p → sets (sets l p xs) i ys ≡ sets (sets l i ys) p xs
+sets-swap l i p xs [] h = refl
+sets-swap l i p xs (y ∷ ys) h = rw (sets-before l p i y xs (omega arith)) (sets-swap (set l i y) (suc i) p xs ys (omega arith))
+
+-- a run that is stored last, up to where another begins, is one run with it
+pub sets-ahead : (l r : List ℕ) (o p : ℕ) (xs ys : List ℕ) → r ≡ sets l p xs → p ≡ o + length ys
+    → sets r o ys ≡ sets l o (ys ++ xs)
+sets-ahead l r o p xs ys e h = rw (e, h) (sets-swap l o (o + length ys) xs ys (omega arith) ∙ sets-append l o ys xs)
 
 set-after : (p q : List ℕ) (n v : ℕ) → p ++ set q n v ≡ set (p ++ q) (length p + n) v
 set-after [] q n v = rw zero-add

@@ -1,7 +1,7 @@
 -- The writers' loops, and that header, records and atoms, each stored in its part, are the table stored.
-use Prim.Native.Nat.{ℕ, _+_, _*_, _≤_, _<_}
+use Prim.Native.Nat.{ℕ, _+_, _*_, _/_, _≤_, _<_}
 use mathlib.Core.Path.{_≡_, refl, _∙_}
-use mathlib.Core.List.{List, [], _∷_, _++_}
+use mathlib.Core.List.{List, [], _∷_, _++_, append-assoc}
 use native.Mathlib.Omega.{arith}
 use native.Mathlib.Nat.{zero-add}
 use lib.ListN.{length, getD, length-append, length-map}
@@ -12,7 +12,7 @@ use Rattle.faults.specs.inner.Places.{termPlaces}
 use Rattle.timetable.specs.Word.{fourBytes}
 use Rattle.timetable.specs.Table.{Record, Content, recordsOf, recordBytes, atomBytes, headerLength, headerBytes, tableOf}
 use Rattle.timetable.specs.inner.Given.{timeAt, given, WrittenTable}
-use Rattle.timetable.proofs.Stores.{sets-next}
+use Rattle.timetable.proofs.Stores.{sets-next, sets-ahead}
 use Rattle.timetable.proofs.Marks.{marked-none, marked-pass, marked-take}
 
 -- ---- words in a row
@@ -101,27 +101,29 @@ length-table c =
       length-atoms (c .atoms),
     )
 
-pub table-stored : (l r₁ r₂ r₃ names times atoms : List ℕ) (n m : ℕ)
-    → tableRoom ≤ length l → n ≤ termPlaces → m ≤ lastAtom
-    → n ≡ length (markedFrom 0 names) → m ≡ length (markedFrom 1 atoms)
-    → r₁ ≡ sets l 0 (headerBytes n m)
-    → r₂ ≡ sets r₁ headerLength (recordBytes (recordsOf (markedFrom 0 names) (timeAt times)))
-    → r₃ ≡ sets r₂ (headerLength + 8 * n) (atomBytes (markedFrom 1 atoms))
-    → WrittenTable (tableOf (given names times atoms)) l r₃ (headerLength + 8 * n + 4 * m)
+pub table-stored : (l r₁ r₂ r₃ names times atoms : List ℕ) (a b : ℕ)
+    → tableRoom ≤ length l → a ≤ 8 * termPlaces → b ≤ 4 * lastAtom
+    → a ≡ 8 * length (markedFrom 0 names) → b ≡ 4 * length (markedFrom 1 atoms)
+    → r₁ ≡ sets l headerLength (recordBytes (recordsOf (markedFrom 0 names) (timeAt times)))
+    → r₂ ≡ sets r₁ (headerLength + a) (atomBytes (markedFrom 1 atoms))
+    → r₃ ≡ sets r₂ 0 (headerBytes (a / 8) (b / 4))
+    → WrittenTable (tableOf (given names times atoms)) l r₃ (headerLength + a + b)
 unfolding tableOf given recordsOf
-table-stored l r₁ r₂ r₃ names times atoms n m long hn hm en em e₁ e₂ e₃ =
+table-stored l r₁ r₂ r₃ names times atoms a b long ha hb ea eb e₁ e₂ e₃ =
     let rs = recordsOf (markedFrom 0 names) (timeAt times) in
     let xs = markedFrom 1 atoms in
-    let header = headerBytes n m in
-    let cn : n ≡ length rs = en ∙ rw length-map in
-    let k₁ : headerLength ≡ 0 + length header = omega (arith, length-header n m) in
-    let k₂ : headerLength + 8 * n ≡ 0 + length (header ++ recordBytes rs) =
-    omega (arith, length-append header (recordBytes rs), length-header n m, length-records rs) in
-    let s₂ : r₂ ≡ sets l 0 (header ++ recordBytes rs) = e₂ ∙ sets-next l r₁ 0 headerLength header (recordBytes rs) e₁ k₁ in
-    let s₃ : r₃ ≡ sets l 0 (header ++ recordBytes rs ++ atomBytes xs) =
-    e₃ ∙ sets-next l r₂ 0 (headerLength + 8 * n) (header ++ recordBytes rs) (atomBytes xs) s₂ k₂ in
-    let t : r₃ ≡ sets l 0 (tableOf (given names times atoms)) = rw (← cn, ← em) s₃ in
-    let k : headerLength + 8 * n + 4 * m ≡ length (tableOf (given names times atoms)) = omega (arith, length-table (given names times atoms)) in
+    let header = headerBytes (a / 8) (b / 4) in
+    let k₁ : length rs ≡ length (markedFrom 0 names) = rw length-map in
+    let n : a / 8 ≡ length rs = omega arith in
+    let m : b / 4 ≡ length xs = omega arith in
+    let k₂ : headerLength + a ≡ headerLength + length (recordBytes rs) = omega (arith, length-records rs) in
+    let s₂ : r₂ ≡ sets l headerLength (recordBytes rs ++ atomBytes xs) =
+    e₂ ∙ sets-next l r₁ headerLength (headerLength + a) (recordBytes rs) (atomBytes xs) e₁ k₂ in
+    let k₃ : headerLength ≡ 0 + length header = omega (arith, length-header (a / 8) (b / 4)) in
+    let s₃ : r₃ ≡ sets l 0 (header ++ (recordBytes rs ++ atomBytes xs)) =
+    e₃ ∙ sets-ahead l r₂ 0 headerLength (recordBytes rs ++ atomBytes xs) header s₂ k₃ in
+    let t : r₃ ≡ sets l 0 (tableOf (given names times atoms)) = rw (append-assoc, ← n, ← m) s₃ in
+    let k : headerLength + a + b ≡ length (tableOf (given names times atoms)) = omega (arith, length-table (given names times atoms)) in
     record {
       count = k;
       fits = omega arith;

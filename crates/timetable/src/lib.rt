@@ -96,12 +96,13 @@ fn write_header(room: &mut [u8], n: u32, m: u32)
     put_word(room, 12, first + 8 * n);
 }
 
-// Writes the records of the marked names into the part of the room that begins at their offset.
-fn write_names(part: &mut [u8], names: &[u8], times: &[u64])
+// Writes the records of the marked names into the part of the room that begins at their offset, and answers how many bytes they take.
+fn write_names(part: &mut [u8], names: &[u8], times: &[u64]) -> usize
     requires { ⌜ Timely (now names) (now times) ⌝ }
-    requires { ⌜ (length (now names) ≡ termPlaces) × (length (now times) ≡ termPlaces) ⌝ }
+    requires { ⌜ (length (now names) ≤ termPlaces) × (length (now names) ≤ length (now times)) ⌝ }
     requires { ⌜ 8 * length (markedFrom 0 (now names)) ≤ length (now part) ⌝ }
     ensures { λ _. ⌜ now (part .exit) ≡ sets (now (part .entry)) 0 (recordBytes (recordsOf (markedFrom 0 (now (names .entry))) (timeAt (now (times .entry))))) ⌝ }
+    ensures { λ r. ⌜ (r ≡ 8 * length (markedFrom 0 (now (names .entry)))) × (r ≤ 8 * termPlaces) ⌝ }
 {
     let mut at = 0;
     let mut i = 0;
@@ -116,13 +117,15 @@ fn write_names(part: &mut [u8], names: &[u8], times: &[u64])
         put_record(part, at, TermNo(name), time);
         at += 8;
     }
+    at
 }
 
-// Writes the marked atoms into the part of the room that begins at their offset.
-fn write_atoms(part: &mut [u8], atoms: &[u8])
-    requires { ⌜ length (now atoms) ≡ atomPlaces ⌝ }
+// Writes the marked atoms into the part of the room that begins at their offset, and answers how many bytes they take.
+fn write_atoms(part: &mut [u8], atoms: &[u8]) -> usize
+    requires { ⌜ length (now atoms) ≤ atomPlaces ⌝ }
     requires { ⌜ 4 * length (markedFrom 1 (now atoms)) ≤ length (now part) ⌝ }
     ensures { λ _. ⌜ now (part .exit) ≡ sets (now (part .entry)) 0 (atomBytes (markedFrom 1 (now (atoms .entry)))) ⌝ }
+    ensures { λ r. ⌜ (r ≡ 4 * length (markedFrom 1 (now (atoms .entry)))) × (r ≤ 4 * lastAtom) ⌝ }
 {
     let mut at = 0;
     let mut i = 1;
@@ -136,6 +139,7 @@ fn write_atoms(part: &mut [u8], atoms: &[u8])
         put_atom(part, at, AtomNo(atom));
         at += 4;
     }
+    at
 }
 
 // Writes the timetable of the marked names, their times and the marked atoms, and answers its length.
@@ -144,13 +148,13 @@ pub fn write(room: &mut [u8], names: &[u8], times: &[u64], atoms: &[u8]) -> usiz
     requires { ⌜ Timely (now names) (now times) ⌝ }
     ensures { λ r. ⌜ WrittenTable (tableOf (given (now (names .entry)) (now (times .entry)) (now (atoms .entry)))) (now (room .entry)) (now (room .exit)) r ⌝ }
 {
-    let n = count_marked(names, 0);
-    let m = count_marked(atoms, 1);
-    write_header(room, n as u32, m as u32);
-    write_names(&mut room[HEADER..], names, times);
-    let at = HEADER + 8 * n;
-    write_atoms(&mut room[at..], atoms);
-    at + 4 * m
+    let a = write_names(&mut room[HEADER..], names, times);
+    let at = HEADER + a;
+    let b = write_atoms(&mut room[at..], atoms);
+    let n = (a / 8) as u32;
+    let m = (b / 4) as u32;
+    write_header(room, n, m);
+    at + b
 }
 
 // A byte as a wider number.

@@ -1,12 +1,12 @@
 -- `timetable::write_atoms` meets its contract: what is written, with the atoms still to come, is the room that is promised.
--- The atoms still to come fit behind what is written.
+-- Four bytes are written for each atom that is behind.
 use borrow.Author.Needs.{needs}
-use Prim.Native.Nat.{_+_, _-_, _*_, _≤_}
+use Prim.Native.Nat.{_+_, _-_, _*_}
 use mathlib.Core.Path.{_≡_, refl, ap, _∙_}
 use native.Mathlib.Omega.{arith}
 use lib.ListN.{length}
 use Rattle.basics.specs.inner.Bitmaps.{markedFrom}
-use Rattle.timetable.proofs.Marks.{marked-pass, marked-take}
+use Rattle.timetable.proofs.Marks.{few-marked, marked-none, marked-pass, marked-take}
 use Rattle.timetable.proofs.Writing.{withAtoms, atoms-none, atoms-pass, atoms-take}
 use Rattle.timetable.proofs.write_atoms.Statement.{statement}
 use Rattle.timetable.proofs.write_atoms.Tie as tie
@@ -14,7 +14,7 @@ use Rattle.timetable.proofs.write_atoms.Tie as tie
 abbrev Inv-loop : tie.InvT-loop
 Inv-loop part₀ atoms at₀ i₀ part at i =
     (withAtoms part at i atoms ≡ withAtoms part₀ 0 1 atoms)
-    × (at + 4 * length (markedFrom i atoms) ≤ length part)
+    × (at + 4 * length (markedFrom i atoms) ≡ 4 * length (markedFrom 1 atoms))
     × (length part ≡ length part₀)
 
 abbrev μ-loop : tie.MeasureT-loop
@@ -73,7 +73,13 @@ same-length c = search needs
 
 returns : tie.Need-returns Inv-loop μ-loop
 unfolding withAtoms
-returns c = atoms-none _ _ _ _ (c .loop-test .left) ∙ c .before .loop .inv .0
+returns c =
+    let atoms = c .before .before .before .before .args .atoms .now in
+    let none = c .loop-test .left in
+    let all : c .before .loop .at ≡ 4 * length (markedFrom 1 atoms) = omega (arith, ap length (marked-none atoms (c .before .loop .i) none)) in (
+      atoms-none _ _ _ _ none ∙ c .before .loop .inv .0,
+      (all, omega (arith, few-marked atoms 1)),
+    )
 
 pub write-atoms-spec : {M : Type 1} → statement M
 write-atoms-spec =

@@ -1,13 +1,13 @@
 -- `timetable::write_names` meets its contract: what is written, with the records still to come, is the room that is promised.
--- The records still to come fit behind what is written.
+-- Eight bytes are written for each name that is behind.
 use borrow.Author.Needs.{needs}
-use Prim.Native.Nat.{_+_, _-_, _*_, _≤_}
+use Prim.Native.Nat.{_+_, _-_, _*_}
 use mathlib.Core.Path.{_≡_, refl, ap, _∙_}
 use native.Mathlib.Omega.{arith}
 use borrow.Author.Tests.{eq-eqb}
 use lib.ListN.{length}
 use Rattle.basics.specs.inner.Bitmaps.{markedFrom}
-use Rattle.timetable.proofs.Marks.{marked-pass, marked-take}
+use Rattle.timetable.proofs.Marks.{few-marked, marked-none, marked-pass, marked-take}
 use Rattle.timetable.proofs.Writing.{withRecords, records-none, records-pass, records-take}
 use Rattle.timetable.proofs.write_names.Statement.{statement}
 use Rattle.timetable.proofs.write_names.Tie as tie
@@ -15,7 +15,7 @@ use Rattle.timetable.proofs.write_names.Tie as tie
 abbrev Inv-loop : tie.InvT-loop
 Inv-loop part₀ names times at₀ i₀ part at i =
     (withRecords part at i names times ≡ withRecords part₀ 0 0 names times)
-    × (at + 8 * length (markedFrom i names) ≤ length part)
+    × (at + 8 * length (markedFrom i names) ≡ 8 * length (markedFrom 0 names))
     × (length part ≡ length part₀)
 
 abbrev μ-loop : tie.MeasureT-loop
@@ -83,7 +83,13 @@ same-length c = search needs
 
 returns : tie.Need-returns Inv-loop μ-loop
 unfolding withRecords
-returns c = records-none _ (c .before .loop .at) _ _ (c .before .before .before .before .before .args .times .now) (c .loop-test .left) ∙ c .before .loop .inv .0
+returns c =
+    let names = c .before .before .before .before .before .args .names .now in
+    let none = c .loop-test .left in
+    let all : c .before .loop .at ≡ 8 * length (markedFrom 0 names) = omega (arith, ap length (marked-none names (c .before .loop .i) none)) in (
+      records-none _ (c .before .loop .at) _ _ (c .before .before .before .before .before .args .times .now) none ∙ c .before .loop .inv .0,
+      (all, omega (arith, few-marked names 0)),
+    )
 
 pub write-names-spec : {M : Type 1} → statement M
 write-names-spec =

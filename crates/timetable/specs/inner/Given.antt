@@ -21,11 +21,11 @@ given names times atoms =
       atoms = markedFrom 1 atoms;
     }
 
--- a place for each term number and for each atom, and a room for the longest table
+-- no more places than term numbers and atoms, a time for each place of a name, and a room for the longest table
 pub record WriterRooms (names times atoms room : List ℕ) : Type 0 where
-  pub names-long : length names ≡ termPlaces
-  pub times-long : length times ≡ termPlaces
-  pub atoms-long : length atoms ≡ atomPlaces
+  pub names-long : length names ≤ termPlaces
+  pub times-long : length names ≤ length times
+  pub atoms-long : length atoms ≤ atomPlaces
   pub room-long : tableRoom ≤ length room
 
 -- no time of a name is above the largest
