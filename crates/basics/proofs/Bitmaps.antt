@@ -1,4 +1,4 @@
--- Laws of bitmaps: the marked numbers of a blank one, of one with one more mark, and which numbers are marked. Assumes nothing.
+-- Laws of bitmaps: the marked numbers of a blank one, of one with one more mark, of a front, and which numbers are marked. Assumes nothing.
 use Prim.Native.Nat.{ℕ, zero, suc, _+_, _≤_, _<_}
 use mathlib.Core.Path.{_≡_, refl, sym, _∙_}
 use mathlib.Core.List.{List, [], _∷_, _++_}
@@ -7,26 +7,27 @@ use native.Mathlib.Omega.{arith}
 use native.Mathlib.Nat.{add-zero}
 use borrow.Author.Tests.{eq-eqb, ne-eqb}
 use lib.Dec.{eqb}
-use lib.ListN.{length, getD, set}
+use lib.ListN.{length, getD, set, take, drop}
+use lib.Seq.{getD-drop, drop-nil}
 use Rattle.basics.specs.Bools.{pick}
 use Rattle.basics.specs.Lists.{among}
-use Rattle.basics.specs.inner.Bitmaps.{isMarked, marks}
+use Rattle.basics.specs.inner.Bitmaps.{isMarked, marks, markedFrom}
 use Rattle.basics.proofs.Bools.{or-assoc}
 
-none-from : (i : ℕ) (x : List ℕ) → ((a : ℕ) → getD x a 0 ≡ 0) → marks i x ≡ []
+none-from : (i : ℕ) (x : List ℕ) → ((a : ℕ) → isMarked x a ≡ false) → marks i x ≡ []
 unfolding marks
 none-from i [] h = refl
-none-from i (b ∷ bs) h = rw (ne-eqb b 1 (λ e. omega (arith, h 0))) (none-from (i + 1) bs (λ a. h (suc a)))
+none-from i (b ∷ bs) h = rw (h 0) (none-from (i + 1) bs (λ a. h (suc a)))
 
 -- a bitmap in which nothing is marked has no marked number
 pub marks-none : (x : List ℕ) → ((a : ℕ) → getD x a 0 ≡ 0) → marks 0 x ≡ []
-marks-none x h = none-from 0 x h
+marks-none x h = none-from 0 x (λ a. rw (h a))
 
 more-from : (i : ℕ) (x : List ℕ) (v : ℕ) → v < length x → ((a : ℕ) → v ≤ a → getD x a 0 ≡ 0) → marks i (set x v 1) ≡ marks i x ++ ((i + v) ∷ [])
 unfolding marks
 more-from i [] v l h = absurd (omega arith)
 more-from i (b ∷ bs) zero l h =
-    let z : marks (i + 1) bs ≡ [] = none-from (i + 1) bs (λ a. h (suc a) (omega arith)) in
+    let z : marks (i + 1) bs ≡ [] = none-from (i + 1) bs (λ a. rw (h (suc a) (omega arith))) in
     rw (ne-eqb b 1 (λ e. omega (arith, h 0 (omega arith))), z, add-zero)
 more-from i (b ∷ bs) (suc v) l h = go (eqb b 1) (more-from (i + 1) bs v (omega arith) (λ a g. h (suc a) (omega arith)))
   where
@@ -38,6 +39,18 @@ more-from i (b ∷ bs) (suc v) l h = go (eqb b 1) (more-from (i + 1) bs v (omega
 -- marking a place at or above which nothing is marked appends it to the marked numbers
 pub marks-more : (x : List ℕ) (v : ℕ) → v < length x → ((a : ℕ) → v ≤ a → getD x a 0 ≡ 0) → marks 0 (set x v 1) ≡ marks 0 x ++ (v ∷ [])
 marks-more x v l h = let z : 0 + v ≡ v = omega arith in more-from 0 x v l h ∙ rw z
+
+front-from : (k i n : ℕ) (x : List ℕ) → ((a : ℕ) → n ≤ a → isMarked x a ≡ false) → marks k (drop i (take n x)) ≡ marks k (drop i x)
+unfolding marks
+front-from k i zero x h = rw (drop-nil i, none-from k (drop i x) (λ a. rw (getD-drop i x a 0) (h (i + a) (omega arith))))
+front-from k i (suc n) [] h = refl
+front-from k zero (suc n) (b ∷ bs) h = rw (front-from (k + 1) zero n bs (λ a l. h (suc a) (omega arith)))
+front-from k (suc i) (suc n) (b ∷ bs) h = front-from k i n bs (λ a l. h (suc a) (omega arith))
+
+-- where no number from n on is marked, the first n places have the same marked numbers
+pub marked-front : (i n : ℕ) (x : List ℕ) → ((a : ℕ) → n ≤ a → isMarked x a ≡ false) → markedFrom i (take n x) ≡ markedFrom i x
+unfolding markedFrom
+marked-front i n x h = front-from i i n x h
 
 -- ---- which numbers are marked
 
