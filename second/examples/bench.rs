@@ -126,7 +126,13 @@ mod measured {
             let (judge, verdict) = median(proved::judge, &input);
             let (second, other) = median(second::judge, &input);
             assert_eq!(verdict, other, "{}", input.0);
-            println!("{:<36} {:>7} {:>16} {judge:>12.1} {second:>12.1} {:>7.2}", input.0, input.1.len(), word(verdict), judge / second);
+            println!(
+                "{:<36} {:>7} {:>16} {judge:>12.1} {second:>12.1} {:>7.2}",
+                input.0,
+                input.1.len(),
+                word(verdict),
+                judge / second
+            );
         }
     }
 }

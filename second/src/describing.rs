@@ -103,12 +103,8 @@ fn statement_numbers(statement: &Statement) -> (u64, Vec<Vec<u64>>) {
         Statement::Rule { choice, head, body } => {
             (1, vec![vec![u64::from(*choice)], counted(head), body_numbers(body)])
         }
-        Statement::Output { string, condition } => {
-            (4, vec![counted_bytes(string), counted_literals(condition)])
-        }
-        Statement::Number { term, value } => {
-            (90, vec![vec![u64::from(*term), signed(i64::from(*value))]])
-        }
+        Statement::Output { string, condition } => (4, vec![counted_bytes(string), counted_literals(condition)]),
+        Statement::Number { term, value } => (90, vec![vec![u64::from(*term), signed(i64::from(*value))]]),
         Statement::Symbol { term, string } => (91, vec![vec![u64::from(*term)], counted_bytes(string)]),
         Statement::Compound { term, base, arguments } => {
             (92, vec![vec![u64::from(*term), signed(base_number(base))], counted(arguments)])

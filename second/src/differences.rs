@@ -41,8 +41,8 @@ impl<'a> Defined<'a> {
     // Takes one line: none if it is unsound, else the difference it may be.
     fn take(&mut self, line: &'a Line) -> Option<Option<Difference>> {
         let (terms, elements) = uses(&line.statement);
-        let known = terms.iter().all(|t| self.terms.contains_key(t))
-            && elements.iter().all(|e| self.elements.contains_key(e));
+        let known =
+            terms.iter().all(|t| self.terms.contains_key(t)) && elements.iter().all(|e| self.elements.contains_key(e));
         if !known || !self.define(&line.statement) {
             return None;
         }
@@ -55,9 +55,9 @@ impl<'a> Defined<'a> {
     // Enters what a statement defines; false if it was defined before.
     fn define(&mut self, statement: &'a Statement) -> bool {
         match statement {
-            Statement::Number { term, .. }
-            | Statement::Symbol { term, .. }
-            | Statement::Compound { term, .. } => self.terms.insert(*term, statement).is_none(),
+            Statement::Number { term, .. } | Statement::Symbol { term, .. } | Statement::Compound { term, .. } => {
+                self.terms.insert(*term, statement).is_none()
+            }
             Statement::Element { element, .. } => self.elements.insert(*element, statement).is_none(),
             Statement::Theory { atom, .. } => self.atoms.insert(*atom),
             _ => true,
@@ -66,8 +66,7 @@ impl<'a> Defined<'a> {
 
     // The difference a theory atom's line says, if it is one.
     fn difference(&self, line: &Line) -> Option<Difference> {
-        let Statement::Theory { atom, name, elements, guard: Some((operator, bound)) } = &line.statement
-        else {
+        let Statement::Theory { atom, name, elements, guard: Some((operator, bound)) } = &line.statement else {
             return None;
         };
         if !self.is_string(*name, b"diff") || !self.is_string(*operator, b"<=") {
@@ -111,9 +110,7 @@ impl<'a> Defined<'a> {
     // The arguments of a compound whose t is the string `-`.
     fn minus(&self, term: u32) -> Option<&[u32]> {
         match self.terms.get(&term)? {
-            Statement::Compound { base: Base::Term(t), arguments, .. } if self.is_string(*t, b"-") => {
-                Some(arguments)
-            }
+            Statement::Compound { base: Base::Term(t), arguments, .. } if self.is_string(*t, b"-") => Some(arguments),
             _ => None,
         }
     }

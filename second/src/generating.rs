@@ -312,11 +312,8 @@ pub fn plan(random: &mut Random) -> Vec<u8> {
     let n = random.below(9);
     let others = (0..n).map(|_| other_line(random, atoms)).collect();
     let with_difference = difference_atoms(random, atoms);
-    let theory = if with_difference.is_empty() && random.once_in(2) {
-        vec![]
-    } else {
-        differences(random, &with_difference)
-    };
+    let theory =
+        if with_difference.is_empty() && random.once_in(2) { vec![] } else { differences(random, &with_difference) };
     let mut lines = merge(random, others, theory);
     add_support(random, atoms, &mut lines);
     text_of(&lines)
@@ -373,8 +370,8 @@ fn edge_number(random: &mut Random) -> Vec<u8> {
     let edges = [
         "0", "1", "2", "3", "4", "5", "6", "7", "8", "9", "10", "11", "1023", "1024", "4095", "4096", "4097",
         "1000000", "1000001", "-1000000", "-1000001", "60000", "100000", "100001", "1000000000", "1000000001",
-        "4294967295", "4294967296", "4294967297", "18446744073709551616", "18446744073709551617", "-4294967297",
-        "-1", "-2", "-3", "-4", "-4096", "-4097", "-0", "00", "01", "-", "-01", "007", "+1", "--1", "1-", "",
+        "4294967295", "4294967296", "4294967297", "18446744073709551616", "18446744073709551617", "-4294967297", "-1",
+        "-2", "-3", "-4", "-4096", "-4097", "-0", "00", "01", "-", "-01", "007", "+1", "--1", "1-", "",
     ];
     match random.below(20) {
         0 => vec![b'9'; 1000],
@@ -558,7 +555,8 @@ impl Loose {
     // A string term, often one a difference needs.
     fn symbol(&mut self, random: &mut Random, kind: usize) {
         let term = Loose::fresh(random, self.defined.len());
-        let string: &[u8] = [&b"diff"[..], b"-", b"<=", *random.one_of(&[&b""[..], b"a", b"diff ", b"<", b"--", b"1"])][kind];
+        let string: &[u8] =
+            [&b"diff"[..], b"-", b"<=", *random.one_of(&[&b""[..], b"a", b"diff ", b"<", b"--", b"1"])][kind];
         self.lines.push(string_line(&[9, 1, term], string));
         self.defined.push(term);
         self.named[kind].push(term);

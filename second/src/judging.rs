@@ -95,9 +95,7 @@ pub fn judge(text: &[u8], cand: &[u8], room: &mut [u8], cycle: &mut [u32]) -> Ve
             cycle[..list.len()].copy_from_slice(&list);
             Verdict::Refused(refusal(10, list.len()))
         }
-        Ok((Outcome::Table(records), atoms)) => {
-            Verdict::Accepted(timetable::write(room, &records, &atoms) as u32)
-        }
+        Ok((Outcome::Table(records), atoms)) => Verdict::Accepted(timetable::write(room, &records, &atoms) as u32),
     }
 }
 

@@ -21,8 +21,10 @@ const ASKED: u32 = 16;
 
 // Candidates of P: right ones, then each fault.
 const CANDIDATES: &[&str] = &[
-    "\n", "1\n", "2\n", "3\n", "1 2\n", "1 3\n", "2 3\n", "1 2 3\n", "4\n", "1 2 3 4\n", "4096\n",
-    "", "1 2 3", "1 2 3 ", "1 2 3 \n", "1  2 3\n", " 1 2 3\n", "1 2 3\n\n", "1 2 3\n4\n", "3 2 1\n", "1 2 2\n", "0\n", "1 0\n", "4097\n", "1 2 3 4097\n", "18446744073709551617\n", "01\n", "-1\n", "1 -2\n", "x\n", "1 2 3x\n", "1,2,3\n", "1\t2\n", "1 2 3\r\n", "\n\n", "{1 2 3}\n",
+    "\n", "1\n", "2\n", "3\n", "1 2\n", "1 3\n", "2 3\n", "1 2 3\n", "4\n", "1 2 3 4\n", "4096\n", "", "1 2 3",
+    "1 2 3 ", "1 2 3 \n", "1  2 3\n", " 1 2 3\n", "1 2 3\n\n", "1 2 3\n4\n", "3 2 1\n", "1 2 2\n", "0\n", "1 0\n",
+    "4097\n", "1 2 3 4097\n", "18446744073709551617\n", "01\n", "-1\n", "1 -2\n", "x\n", "1 2 3x\n", "1,2,3\n",
+    "1\t2\n", "1 2 3\r\n", "\n\n", "{1 2 3}\n",
 ];
 
 // Neighbours of P: some lines of it, and what stands there instead; each is judged with `1 2 3`.
@@ -226,12 +228,22 @@ type Plan = (&'static str, &'static str, &'static [(u32, u32, u32, i32)], &'stat
 const DIFFERENCES: &[Plan] = &[
     ("x-x-below", "", &[(7, 3, 3, -1)], &["7\n", "\n"]),
     ("x-x-zero", "", &[(7, 3, 3, 0)], &["7\n"]),
-    ("chain", "", &[(1, 4, 3, -1), (2, 5, 4, -10), (3, 6, 5, -100), (4, 7, 6, -1000)], &["1 2 3 4\n", "1 3\n", "2 4\n", "\n"]),
+    (
+        "chain",
+        "",
+        &[(1, 4, 3, -1), (2, 5, 4, -10), (3, 6, 5, -100), (4, 7, 6, -1000)],
+        &["1 2 3 4\n", "1 3\n", "2 4\n", "\n"],
+    ),
     ("chain-backwards", "", &[(1, 3, 4, -1), (2, 4, 5, -10), (3, 5, 6, -100), (4, 6, 7, -1000)], &["1 2 3 4\n", "4\n"]),
     ("two-ways", "", &[(1, 3, 4, -7), (2, 3, 5, -2), (3, 5, 4, -6), (4, 4, 3, 8)], &["1 2 3 4\n", "1 4\n", "2 3 4\n"]),
     ("round", "", &[(9, 3, 4, -1), (2, 4, 5, -1), (8, 5, 6, -1), (4, 6, 3, 2)], &["2 4 8 9\n", "2 8 9\n"]),
     ("round-zero", "", &[(9, 3, 4, -1), (2, 4, 5, -1), (8, 5, 6, -1), (4, 6, 3, 3)], &["2 4 8 9\n"]),
-    ("round-beside", "", &[(1, 3, 4, -1), (2, 4, 5, -1), (3, 5, 4, 0), (5, 6, 7, -3), (6, 5, 6, -1)], &["1 2 3 5 6\n", "1 2 5 6\n", "1 3 5 6\n"]),
+    (
+        "round-beside",
+        "",
+        &[(1, 3, 4, -1), (2, 4, 5, -1), (3, 5, 4, 0), (5, 6, 7, -3), (6, 5, 6, -1)],
+        &["1 2 3 5 6\n", "1 2 5 6\n", "1 3 5 6\n"],
+    ),
     ("far", "", &[(4096, 1023, 99, -1000000), (4095, 99, 1022, -1000000)], &["4095 4096\n", "4095\n"]),
     ("same-twice", "", &[(1, 3, 4, -5), (2, 3, 4, -9)], &["1\n", "2\n", "1 2\n"]),
     ("defined", "1 1 1 5 0 0\n1 0 1 1 0 1 5\n", &[(1, 3, 4, -2)], &["\n", "1 5\n", "1\n", "5\n"]),
@@ -242,14 +254,49 @@ const DIFFERENCES: &[Plan] = &[
     ("external-loop", "1 0 1 5 0 1 6\n1 0 1 6 0 1 5\n1 0 1 6 0 1 1\n", &[(1, 3, 4, -2)], &["1 5 6\n", "5 6\n"]),
     ("unfounded-first", "1 0 1 5 0 1 5\n", &[(1, 3, 4, -2), (2, 4, 3, 1)], &["1 2 5\n", "1 2\n"]),
     // A difference by a weight rule; external atoms in a weight body; some of several differences demanded.
-    ("weights-defined", "1 1 2 5 6 0 0\n1 0 1 1 1 2 2 5 1 6 1\n", &[(1, 3, 4, -2)], &["\n", "5\n", "5 6\n", "1 5 6\n", "1 5\n", "1\n"]),
-    ("weights-choice-defined", "1 1 1 5 0 0\n1 1 2 1 2 1 2 2 5 2 1 2\n", &[(1, 3, 4, -2), (2, 4, 5, -3)], &["\n", "5\n", "1 5\n", "2 5\n", "1 2 5\n", "1\n"]),
-    ("weights-external", "1 0 1 5 1 3 2 1 1 2 2\n", &[(1, 3, 4, -2), (2, 4, 5, -3)], &["\n", "1\n", "2\n", "1 2\n", "1 2 5\n", "2 5\n"]),
-    ("weights-external-negated", "1 0 1 5 1 3 2 -1 1 2 2\n", &[(1, 3, 4, -2), (2, 4, 5, -3)], &["\n", "2\n", "2 5\n", "1 2\n", "1 2 5\n"]),
+    (
+        "weights-defined",
+        "1 1 2 5 6 0 0\n1 0 1 1 1 2 2 5 1 6 1\n",
+        &[(1, 3, 4, -2)],
+        &["\n", "5\n", "5 6\n", "1 5 6\n", "1 5\n", "1\n"],
+    ),
+    (
+        "weights-choice-defined",
+        "1 1 1 5 0 0\n1 1 2 1 2 1 2 2 5 2 1 2\n",
+        &[(1, 3, 4, -2), (2, 4, 5, -3)],
+        &["\n", "5\n", "1 5\n", "2 5\n", "1 2 5\n", "1\n"],
+    ),
+    (
+        "weights-external",
+        "1 0 1 5 1 3 2 1 1 2 2\n",
+        &[(1, 3, 4, -2), (2, 4, 5, -3)],
+        &["\n", "1\n", "2\n", "1 2\n", "1 2 5\n", "2 5\n"],
+    ),
+    (
+        "weights-external-negated",
+        "1 0 1 5 1 3 2 -1 1 2 2\n",
+        &[(1, 3, 4, -2), (2, 4, 5, -3)],
+        &["\n", "2\n", "2 5\n", "1 2\n", "1 2 5\n"],
+    ),
     ("weights-external-head", "1 1 1 1 1 1 1 9 1\n", &[(1, 3, 4, -2)], &["\n", "1\n"]),
-    ("weights-external-loop", "1 0 1 5 1 2 3 6 1 1 1 7 1\n1 0 1 6 1 1 2 5 1 1 1\n", &[(1, 3, 4, -2)], &["1 5 6\n", "5 6\n", "1 6\n"]),
-    ("weights-demanded", "1 0 0 1 2 3 -1 1 -2 1 -3 1\n", &[(1, 3, 4, -2), (2, 4, 5, -3), (3, 5, 3, 4)], &["\n", "3\n", "1 2\n", "1 3\n", "2 3\n", "1 2 3\n"]),
-    ("weights-round", "1 1 3 1 2 3 0 0\n1 0 1 4 1 6 3 1 1 2 2 3 3\n", &[(1, 3, 4, -1), (2, 4, 5, -1), (3, 5, 6, -1), (4, 6, 3, 2)], &["1 2 3 4\n", "1 2 3\n", "1 2\n", "4\n"]),
+    (
+        "weights-external-loop",
+        "1 0 1 5 1 2 3 6 1 1 1 7 1\n1 0 1 6 1 1 2 5 1 1 1\n",
+        &[(1, 3, 4, -2)],
+        &["1 5 6\n", "5 6\n", "1 6\n"],
+    ),
+    (
+        "weights-demanded",
+        "1 0 0 1 2 3 -1 1 -2 1 -3 1\n",
+        &[(1, 3, 4, -2), (2, 4, 5, -3), (3, 5, 3, 4)],
+        &["\n", "3\n", "1 2\n", "1 3\n", "2 3\n", "1 2 3\n"],
+    ),
+    (
+        "weights-round",
+        "1 1 3 1 2 3 0 0\n1 0 1 4 1 6 3 1 1 2 2 3 3\n",
+        &[(1, 3, 4, -1), (2, 4, 5, -1), (3, 5, 6, -1), (4, 6, 3, 2)],
+        &["1 2 3 4\n", "1 2 3\n", "1 2\n", "4\n"],
+    ),
 ];
 
 // The terms of every plan of differences: 0 `diff`, 1 `-`, 2 `<=`; each other name is a string.
@@ -261,7 +308,8 @@ fn differences(rules: &str, differences: &[(u32, u32, u32, i32)]) -> String {
     lines.extend(names.iter().map(|n| format!("9 1 {n} 1 a\n")));
     for (i, (atom, x, y, k)) in differences.iter().enumerate() {
         let (bound, minus) = (200 + 2 * i, 201 + 2 * i);
-        lines += &format!("9 0 {bound} {k}\n9 2 {minus} 1 2 {x} {y}\n9 4 {i} 1 {minus} 0\n9 6 {atom} 0 1 {i} 2 {bound}\n");
+        lines +=
+            &format!("9 0 {bound} {k}\n9 2 {minus} 1 2 {x} {y}\n9 4 {i} 1 {minus} 0\n9 6 {atom} 0 1 {i} 2 {bound}\n");
     }
     text(&lines)
 }
@@ -309,7 +357,11 @@ fn moved() -> Vec<Pair> {
         let doubled = [before, &[lines[i], lines[i]], after].concat();
         let next = after.len().min(1);
         let behind = [before, &after[..next], &[lines[i]], &after[next..]].concat();
-        [with(format!("left-out-{i}"), left_out), with(format!("doubled-{i}"), doubled), with(format!("behind-{i}"), behind)]
+        [
+            with(format!("left-out-{i}"), left_out),
+            with(format!("doubled-{i}"), doubled),
+            with(format!("behind-{i}"), behind),
+        ]
     };
     (0..lines.len()).flat_map(one).collect()
 }
@@ -373,7 +425,11 @@ fn least_most(least: u32, most: u32, atoms: &[u32], first: u32) -> String {
 fn grounded() -> Vec<Pair> {
     let choice = "1 1 3 1 2 3 0 0\n";
     let of_three = |least: u32, most: u32| text(&(String::from(choice) + &least_most(least, most, &[1, 2, 3], 4)));
-    let mut pairs = each("one-of-three", &of_three(1, 1), &["1 4 6\n", "2 4 6\n", "3 4 6\n", "\n", "1\n", "1 4\n", "1 2 4 5\n", "1 2 4 6\n", "1 2 4 5 6\n", "4 6\n"]);
+    let mut pairs = each(
+        "one-of-three",
+        &of_three(1, 1),
+        &["1 4 6\n", "2 4 6\n", "3 4 6\n", "\n", "1\n", "1 4\n", "1 2 4 5\n", "1 2 4 6\n", "1 2 4 5 6\n", "4 6\n"],
+    );
     pairs.extend(each("one-or-two", &of_three(1, 2), &["1 4 6\n", "1 3 4 6\n", "1 2 3 4 5\n", "1 2 3 4 6\n", "\n"]));
     pairs.extend(every("objective", &text(&format!("{choice}1 0 0 1 8 3 1 3 2 4 3 5\n")), 3));
     pairs.extend(every("sum", &text(&format!("{choice}1 0 1 4 1 5 3 1 2 -2 3 3 4\n")), 4));
@@ -426,20 +482,20 @@ pub const GROUNDED: &[Grounded] = &[
 fn answered((i, grounded): (usize, &Grounded)) -> Vec<Pair> {
     let less = |a: &&str| a.split_once(' ').map_or(String::from("\n"), |(_, rest)| rest.to_string());
     let mut pairs = each(&format!("gringo-{i}"), grounded.text, grounded.answers);
-    pairs.extend(each(&format!("gringo-{i}-less"), grounded.text, &grounded.answers.iter().map(less).collect::<Vec<_>>()));
+    pairs.extend(each(
+        &format!("gringo-{i}-less"),
+        grounded.text,
+        &grounded.answers.iter().map(less).collect::<Vec<_>>(),
+    ));
     pairs
 }
 
 // The six answers that 002 prints for its flow shop, each as the atoms that hold, then two that are wrong: no
 // fact in it, and one machine of a pair left out.
 const FLOW_SHOP: &[&str] = &[
-    "2 3 11 12 13 20 21 22 23 24 25 33 34 35 36\n",
-    "3 6 11 12 13 20 21 22 23 24 25 35 36 41 42\n",
-    "2 6 11 12 13 20 21 22 23 24 25 33 34 41 42\n",
-    "4 5 11 12 13 20 21 22 23 24 25 37 38 39 40\n",
-    "1 4 11 12 13 20 21 22 23 24 25 31 32 37 38\n",
-    "1 5 11 12 13 20 21 22 23 24 25 31 32 39 40\n",
-    "1 4\n",
+    "2 3 11 12 13 20 21 22 23 24 25 33 34 35 36\n", "3 6 11 12 13 20 21 22 23 24 25 35 36 41 42\n",
+    "2 6 11 12 13 20 21 22 23 24 25 33 34 41 42\n", "4 5 11 12 13 20 21 22 23 24 25 37 38 39 40\n",
+    "1 4 11 12 13 20 21 22 23 24 25 31 32 37 38\n", "1 5 11 12 13 20 21 22 23 24 25 31 32 39 40\n", "1 4\n",
     "2 3 11 12 13 20 21 22 23 24 25 33 34 35\n",
 ];
 
@@ -519,7 +575,8 @@ pub fn pairs() -> Vec<Pair> {
     pairs.extend(published());
     pairs.extend(PROGRAMS.iter().flat_map(|(name, lines, cands)| each(name, &text(lines), cands)));
     pairs.extend(WEIGHTS.iter().flat_map(|(name, lines, atoms)| every(name, &text(lines), *atoms)));
-    pairs.extend(DIFFERENCES.iter().flat_map(|(name, rules, list, cands)| each(name, &differences(rules, list), cands)));
+    pairs
+        .extend(DIFFERENCES.iter().flat_map(|(name, rules, list, cands)| each(name, &differences(rules, list), cands)));
     pairs.extend(changed());
     pairs.extend(ordered());
     pairs.extend(moved());

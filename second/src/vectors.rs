@@ -9,7 +9,8 @@ const HEADER: &[u8] = b"asp 1 0 0\n";
 pub const PLAN: &str = "asp 1 0 0\n1 1 1 1 0 0\n1 0 1 2 0 1 1\n1 0 1 3 0 0\n9 1 0 4 diff\n9 1 1 1 -\n9 1 2 2 <=\n9 1 3 4 send\n9 1 4 4 recv\n9 0 5 40\n9 2 6 1 2 4 3\n9 4 0 1 6 0\n9 6 2 0 1 0 2 5\n9 0 8 5\n9 2 9 1 1 8\n9 2 7 1 2 3 4\n9 4 1 1 7 0\n9 6 3 0 1 1 2 9\n0\n";
 
 /// Listing 49 of source document 002; source document 001 prints the same text.
-pub const LISTING_49: &str = "asp 1 0 0\n1 1 1 1 0 0\n1 0 1 2 0 1 1\n1 0 1 3 0 1 -1\n4 1 a 1 1\n4 1 b 1 2\n4 1 c 1 3\n0\n";
+pub const LISTING_49: &str =
+    "asp 1 0 0\n1 1 1 1 0 0\n1 0 1 2 0 1 1\n1 0 1 3 0 1 -1\n4 1 a 1 1\n4 1 b 1 2\n4 1 c 1 3\n0\n";
 
 /// Listing 50 of source document 002.
 pub const LISTING_50: &str = "asp 1 0 0\n1 0 1 1 0 0\n1 0 1 2 0 0\n1 0 1 3 0 0\n1 0 1 4 0 0\n1 0 1 5 0 0\n1 0 1 6 0 0\n4 7 task(1) 0\n4 7 task(2) 0\n4 15 duration(1,200) 0\n4 15 duration(2,400) 0\n9 0 1 200\n9 0 3 400\n9 0 6 1\n9 0 11 2\n9 1 0 4 diff\n9 1 2 2 <=\n9 1 4 1 -\n9 1 5 3 end\n9 1 8 5 start\n9 2 7 5 1 6\n9 2 9 8 1 6\n9 2 10 4 2 7 9\n9 2 12 5 1 11\n9 2 13 8 1 11\n9 2 14 4 2 12 13\n9 4 0 1 10 0\n9 4 1 1 14 0\n9 6 5 0 1 0 2 1\n9 6 6 0 1 1 2 3\n0\n";
@@ -34,94 +35,162 @@ enum Field {
     Bytes,
 }
 
+use Field::*;
+
 // A right line of each kind, with what each of its fields is.
 const LINES: &[(&str, &[Field])] = &[
-    ("1 0 1 5 0 1 7", &[Field::Type, Field::Head, Field::Plain, Field::Atom, Field::Body, Field::Count, Field::Literal]),
-    ("1 1 2 5 6 0 2 7 -8", &[Field::Type, Field::Head, Field::Count, Field::Atom, Field::Atom, Field::Body, Field::Count, Field::Literal, Field::Literal]),
-    ("1 0 1 5 1 3 2 7 2 -8 1", &[Field::Type, Field::Head, Field::Plain, Field::Atom, Field::Body, Field::Bound, Field::Count, Field::Literal, Field::Weight, Field::Literal, Field::Weight]),
-    ("4 2 ab 1 -3", &[Field::Type, Field::Count, Field::Bytes, Field::Count, Field::Literal]),
-    ("9 0 12 -34", &[Field::Type, Field::Theory, Field::Index, Field::Number]),
-    ("9 1 12 2 ab", &[Field::Type, Field::Theory, Field::Index, Field::Count, Field::Bytes]),
-    ("9 2 12 3 2 4 5", &[Field::Type, Field::Theory, Field::Index, Field::Base, Field::Count, Field::Index, Field::Index]),
-    ("9 4 1 1 4 1 -7", &[Field::Type, Field::Theory, Field::Index, Field::Count, Field::Index, Field::Count, Field::Literal]),
-    ("9 5 12 3 1 4", &[Field::Type, Field::Theory, Field::Named, Field::Index, Field::Count, Field::Index]),
-    ("9 6 12 3 1 4 6 7", &[Field::Type, Field::Theory, Field::Named, Field::Index, Field::Count, Field::Index, Field::Index, Field::Index]),
+    ("1 0 1 5 0 1 7", &[Type, Head, Plain, Atom, Body, Count, Literal]),
+    ("1 1 2 5 6 0 2 7 -8", &[Type, Head, Count, Atom, Atom, Body, Count, Literal, Literal]),
+    ("1 0 1 5 1 3 2 7 2 -8 1", &[Type, Head, Plain, Atom, Body, Bound, Count, Literal, Weight, Literal, Weight]),
+    ("4 2 ab 1 -3", &[Type, Count, Bytes, Count, Literal]),
+    ("9 0 12 -34", &[Type, Theory, Index, Number]),
+    ("9 1 12 2 ab", &[Type, Theory, Index, Count, Bytes]),
+    ("9 2 12 3 2 4 5", &[Type, Theory, Index, Base, Count, Index, Index]),
+    ("9 4 1 1 4 1 -7", &[Type, Theory, Index, Count, Index, Count, Literal]),
+    ("9 5 12 3 1 4", &[Type, Theory, Named, Index, Count, Index]),
+    ("9 6 12 3 1 4 6 7", &[Type, Theory, Named, Index, Count, Index, Index, Index]),
 ];
 
 // Values tried in the place of a field: forms first, then what is carried, then bounds from inside and outside.
 fn tried(field: Field) -> &'static [&'static str] {
     match field {
-        Field::Type => &["", "01", "-1", "2", "8", "11"],
-        Field::Theory => &["", "00", "-0", "3", "7"],
-        Field::Head => &["", "00", "-1", "2"],
-        Field::Plain => &["", "01", "-1", "0", "2", "5000"],
-        Field::Body => &["", "00", "-1", "0", "1", "2", "4294967297"],
-        Field::Bound => &["", "03", "-1", "-0", "0", "1", "1000000000", "1000000001", "18446744073709551617"],
-        Field::Weight => &["", "02", "-1", "-0", "0", "1", "100000", "100001", "18446744073709551617"],
-        Field::Count => &["", "01", "-1", "0", "4096", "4097"],
-        Field::Atom => &["", "05", "-5", "0", "1", "4096", "4097"],
-        Field::Named => &["", "01", "-1", "0", "1", "4096", "4097"],
-        Field::Index => &["", "00", "-1", "0", "1023", "1024"],
-        Field::Literal => &["", "-0", "-", "07", "0", "4096", "-4096", "4097", "-4097"],
-        Field::Number => &["", "-0", "-", "--1", "0", "1000000", "-1000000", "1000001", "-1000001"],
-        Field::Base => &["", "-0", "00", "-1", "-2", "-3", "-4", "0", "1023", "1024"],
-        Field::Bytes => &["", "a", "abc", "a b"],
+        Type => &["", "01", "-1", "2", "8", "11"],
+        Theory => &["", "00", "-0", "3", "7"],
+        Head => &["", "00", "-1", "2"],
+        Plain => &["", "01", "-1", "0", "2", "5000"],
+        Body => &["", "00", "-1", "0", "1", "2", "4294967297"],
+        Bound => &["", "03", "-1", "-0", "0", "1", "1000000000", "1000000001", "18446744073709551617"],
+        Weight => &["", "02", "-1", "-0", "0", "1", "100000", "100001", "18446744073709551617"],
+        Count => &["", "01", "-1", "0", "4096", "4097"],
+        Atom => &["", "05", "-5", "0", "1", "4096", "4097"],
+        Named => &["", "01", "-1", "0", "1", "4096", "4097"],
+        Index => &["", "00", "-1", "0", "1023", "1024"],
+        Literal => &["", "-0", "-", "07", "0", "4096", "-4096", "4097", "-4097"],
+        Number => &["", "-0", "-", "--1", "0", "1000000", "-1000000", "1000001", "-1000001"],
+        Base => &["", "-0", "00", "-1", "-2", "-3", "-4", "0", "1023", "1024"],
+        Bytes => &["", "a", "abc", "a b"],
     }
 }
 
 // Single lines, each in a text of its own.
-const SINGLE: &[&[u8]] = &[
+const SINGLE: &[&[&[u8]]] = &[
     // Types, and what stands behind one that is not carried.
-    b"", b" ", b"2", b"3", b"5", b"6", b"7", b"8", b"2 0 1 1 1", b"3 1 1", b"5 1 0", b"6 1 1", b"7 0 1 1 1 0", b"8 0 1 0", b"2x 0", b"5\t", b"11", b"12 x", b"99999999999", b"x", b"+1 0 0 0 0", b"1", b"4", b"9", b"9 x", b"9 8", b"9 99999999999",
+    &[
+        b"", b" ", b"2", b"3", b"5", b"6", b"7", b"8", b"2 0 1 1 1", b"3 1 1", b"5 1 0", b"6 1 1", b"7 0 1 1 1 0",
+        b"8 0 1 0", b"2x 0", b"5\t", b"11", b"12 x", b"99999999999", b"x", b"+1 0 0 0 0", b"1", b"4", b"9", b"9 x",
+        b"9 8", b"9 99999999999",
+    ],
     // Heads and bodies.
-    b"1 0 0 0 0", b"1 1 0 0 0", b"1 0 2 1 2 0 0", b"1 0 4097 1 0 0", b"1 1 3 1 1 2 0 3 -1 1 1", b"1 1 1 0 0 0", b"1 0 0 1 2 1 1 1", b"1 0 0 1", b"1 0 0 1x 1", b"1 0 0 0 1", b"1 0 0 0 2 3", b"1 0 0 0 0 5", b"1 0 1 0 0",
+    &[
+        b"1 0 0 0 0", b"1 1 0 0 0", b"1 0 2 1 2 0 0", b"1 0 4097 1 0 0", b"1 1 3 1 1 2 0 3 -1 1 1", b"1 1 1 0 0 0",
+        b"1 0 0 1 2 1 1 1", b"1 0 0 1", b"1 0 0 1x 1", b"1 0 0 0 1", b"1 0 0 0 2 3", b"1 0 0 0 0 5", b"1 0 1 0 0",
+    ],
     // Weight bodies: the bound.
-    b"1 0 1 1 1", b"1 0 1 1 1 ", b"1 0 1 1 1 0", b"1 0 1 1 1 0 0", b"1 0 0 1 0 0", b"1 0 0 1 1 0", b"1 1 0 1 0 0", b"1 0 1 1 1 1000000000 0", b"1 0 1 1 1 1000000001 0", b"1 0 1 1 1 1000000001", b"1 0 1 1 1 1000000001x 0", b"1 0 1 1 1 99999999999999999999 0", b"1 0 1 1 1 4294967296 0", b"1 0 1 1 1 -1 0", b"1 0 1 1 1 -1000000001 0", b"1 0 1 1 1 x 0", b"1 0 1 1 1  0", b"1 0 1 1 2 0", b"1 0 1 1 2 1 1 2 1", b"1 0 1 1 3 0 0", b"1 0 2 1 2 1 0 0",
+    &[
+        b"1 0 1 1 1", b"1 0 1 1 1 ", b"1 0 1 1 1 0", b"1 0 1 1 1 0 0", b"1 0 0 1 0 0", b"1 0 0 1 1 0", b"1 1 0 1 0 0",
+        b"1 0 1 1 1 1000000000 0", b"1 0 1 1 1 1000000001 0", b"1 0 1 1 1 1000000001", b"1 0 1 1 1 1000000001x 0",
+        b"1 0 1 1 1 99999999999999999999 0", b"1 0 1 1 1 4294967296 0", b"1 0 1 1 1 -1 0", b"1 0 1 1 1 -1000000001 0",
+        b"1 0 1 1 1 x 0", b"1 0 1 1 1  0", b"1 0 1 1 2 0", b"1 0 1 1 2 1 1 2 1", b"1 0 1 1 3 0 0", b"1 0 2 1 2 1 0 0",
+    ],
     // Weight bodies: the count, which counts pairs; fields that are missing and fields too many.
-    b"1 0 1 1 1 1", b"1 0 1 1 1 1 4097", b"1 0 1 1 1 1 4096 2", b"1 0 1 1 1 1 -1", b"1 0 1 1 1 1 1", b"1 0 1 1 1 1 1 2", b"1 0 1 1 1 1 2 2 1", b"1 0 1 1 1 1 2 2 1 3", b"1 0 1 1 1 1 2 2 3", b"1 0 1 1 1 1 1 2 1 3", b"1 0 1 1 1 1 1 2 1 3 1", b"1 0 1 1 1 0 0 1", b"1 0 1 1 1 1 1 2 1 ",
+    &[
+        b"1 0 1 1 1 1", b"1 0 1 1 1 1 4097", b"1 0 1 1 1 1 4096 2", b"1 0 1 1 1 1 -1", b"1 0 1 1 1 1 1",
+        b"1 0 1 1 1 1 1 2", b"1 0 1 1 1 1 2 2 1", b"1 0 1 1 1 1 2 2 1 3", b"1 0 1 1 1 1 2 2 3", b"1 0 1 1 1 1 1 2 1 3",
+        b"1 0 1 1 1 1 1 2 1 3 1", b"1 0 1 1 1 0 0 1", b"1 0 1 1 1 1 1 2 1 ",
+    ],
     // Weight bodies: literals and weights.
-    b"1 0 1 1 1 1 1 0 0", b"1 0 1 1 1 1 1 0 1", b"1 0 1 1 1 1 1 4097 0", b"1 0 1 1 1 1 1 2 0", b"1 0 1 1 1 1 1 2 100000", b"1 0 1 1 1 1 1 2 100001", b"1 0 1 1 1 1 1 2 1000000", b"1 0 1 1 1 1 1 2 4294967297", b"1 0 1 1 1 1 1 2 -1", b"1 0 1 1 1 1 1 2 -100001", b"1 0 1 1 1 1 1 2 x", b"1 0 1 1 1 1 1 2 1x", b"1 0 1 1 1 1 1 2  1", b"1 0 1 1 1 1 1 2\t1", b"1 0 1 1 1 1 1 2 1\r", b"1 0 1 1 1 2 2 1 1 1 1", b"1 0 1 1 1 2 3 2 1 -2 1 2 3", b"1 1 1 5 1 9 1 -7 9", b"1 1 2 4096 4096 1 1000000000 2 4096 100000 -4096 100000",
+    &[
+        b"1 0 1 1 1 1 1 0 0", b"1 0 1 1 1 1 1 0 1", b"1 0 1 1 1 1 1 4097 0", b"1 0 1 1 1 1 1 2 0",
+        b"1 0 1 1 1 1 1 2 100000", b"1 0 1 1 1 1 1 2 100001", b"1 0 1 1 1 1 1 2 1000000",
+        b"1 0 1 1 1 1 1 2 4294967297", b"1 0 1 1 1 1 1 2 -1", b"1 0 1 1 1 1 1 2 -100001", b"1 0 1 1 1 1 1 2 x",
+        b"1 0 1 1 1 1 1 2 1x", b"1 0 1 1 1 1 1 2  1", b"1 0 1 1 1 1 1 2\t1", b"1 0 1 1 1 1 1 2 1\r",
+        b"1 0 1 1 1 2 2 1 1 1 1", b"1 0 1 1 1 2 3 2 1 -2 1 2 3", b"1 1 1 5 1 9 1 -7 9",
+        b"1 1 2 4096 4096 1 1000000000 2 4096 100000 -4096 100000",
+    ],
     // Separators: doubled, at the ends, a tab, 13, a byte 0.
-    b"1  0 0 0 0", b"1 0 0 0  0", b" 1 0 0 0 0", b"1 0 0 0 0 ", b"1 0 0 0 1 1 ", b"1 0 0 0 0\t", b"1\t0 0 0 0", b"1 0 0 0 0\r", b"1 0 0 0 1 \t1", b"1 0 0 0 0\0", b"1 0 0 0 1 1\x80", b"9 0 1 2\xff", b"9 0 1\r2",
+    &[
+        b"1  0 0 0 0", b"1 0 0 0  0", b" 1 0 0 0 0", b"1 0 0 0 0 ", b"1 0 0 0 1 1 ", b"1 0 0 0 0\t", b"1\t0 0 0 0",
+        b"1 0 0 0 0\r", b"1 0 0 0 1 \t1", b"1 0 0 0 0\0", b"1 0 0 0 1 1\x80", b"9 0 1 2\xff", b"9 0 1\r2",
+    ],
     // Strings.
-    b"9 1 0 0 ", b"9 1 0 0", b"9 1 0 0  ", b"9 1 0 1  ", b"9 1 0 3 a b", b"9 1 0 4 \t\r\x80\xff", b"9 1 0 3 a\0b", b"9 1 0 3 \0\0\0", b"9 1 0 3 a\nb", b"9 1 0 1 \n", b"9 1 0 3 ab", b"9 1 0 3 abc\t", b"9 1 0 3 abc\0", b"9 1 0 4096 ab", b"9 1 0 4097 ab", b"4 0  0", b"4 0 0", b"4 0   0", b"4 1   0", b"4 1 ab 0", b"4 1 a", b"4 1 a ", b"4 4 a 0", b"4 2 \x80\xff 0", b"4 2 a\0 0", b"4 3 a\nb 0", b"4 3 1 0 0", b"4 4096 a 0", b"4 4097 a 0", b"4 1 a\t0", b"4 1 a\n0",
+    &[
+        b"9 1 0 0 ", b"9 1 0 0", b"9 1 0 0  ", b"9 1 0 1  ", b"9 1 0 3 a b", b"9 1 0 4 \t\r\x80\xff", b"9 1 0 3 a\0b",
+        b"9 1 0 3 \0\0\0", b"9 1 0 3 a\nb", b"9 1 0 1 \n", b"9 1 0 3 ab", b"9 1 0 3 abc\t", b"9 1 0 3 abc\0",
+        b"9 1 0 4096 ab", b"9 1 0 4097 ab", b"4 0  0", b"4 0 0", b"4 0   0", b"4 1   0", b"4 1 ab 0", b"4 1 a",
+        b"4 1 a ", b"4 4 a 0", b"4 2 \x80\xff 0", b"4 2 a\0 0", b"4 3 a\nb 0", b"4 3 1 0 0", b"4 4096 a 0",
+        b"4 4097 a 0", b"4 1 a\t0", b"4 1 a\n0",
+    ],
     // Comments.
-    b"10", b"10 ", b"10  ", b"10 ab", b"10  a 0 -", b"10\tx", b"10 a\t\r\x80\xff", b"10 a\0", b"10 \0", b"10x", b"010 a", b"100 a", b"10 10", b"10 \n10 b",
+    &[
+        b"10", b"10 ", b"10  ", b"10 ab", b"10  a 0 -", b"10\tx", b"10 a\t\r\x80\xff", b"10 a\0", b"10 \0", b"10x",
+        b"010 a", b"100 a", b"10 10", b"10 \n10 b",
+    ],
     // Signs and leading zeros.
-    b"9 0 0 +1", b"9 0 0 -01", b"9 0 0 1-", b"9 0 0 -a", b"9 0 0 0x", b"9 0 0 1.0", b"9 0 0 1 1", b"9 2 0 -5 0", b"9 2 0 -1000000 0", b"9 2 0 x 0", b"9 2 0 -1 0", b"9 4 0 0 0", b"9 5 1 0 0", b"9 6 1 0 0 0 0", b"9 5 1 0 0 0", b"9 6 1 0 0 0", b"9 6 1 0 0 0 0 0", b"9 6 0", b"9 5 -0 0 0",
+    &[
+        b"9 0 0 +1", b"9 0 0 -01", b"9 0 0 1-", b"9 0 0 -a", b"9 0 0 0x", b"9 0 0 1.0", b"9 0 0 1 1", b"9 2 0 -5 0",
+        b"9 2 0 -1000000 0", b"9 2 0 x 0", b"9 2 0 -1 0", b"9 4 0 0 0", b"9 5 1 0 0", b"9 6 1 0 0 0 0", b"9 5 1 0 0 0",
+        b"9 6 1 0 0 0", b"9 6 1 0 0 0 0 0", b"9 6 0", b"9 5 -0 0 0",
+    ],
     // Numbers that no small register holds.
-    b"1 0 1 4294967297 0 0", b"1 0 0 0 1 -4294967297", b"1 0 4294967297 0 0", b"9 0 4294967296 0", b"9 0 0 18446744073709551617", b"9 0 0 -18446744073709551617", b"9 1 0 18446744073709551616 ", b"18446744073709551626 x", b"9 2 0 4294967296 0",
+    &[
+        b"1 0 1 4294967297 0 0", b"1 0 0 0 1 -4294967297", b"1 0 4294967297 0 0", b"9 0 4294967296 0",
+        b"9 0 0 18446744073709551617", b"9 0 0 -18446744073709551617", b"9 1 0 18446744073709551616 ",
+        b"18446744073709551626 x", b"9 2 0 4294967296 0",
+    ],
 ];
 
 // What stands behind the first line.
-const BEHIND: &[&[u8]] = &[
+const BEHIND: &[&[&[u8]]] = &[
     // The line `0`, and bytes after it; no such line.
-    b"", b"0", b"0\n", b"0 ", b"0 \n", b"0\r\n", b"0\t\n", b"0\n ", b"0\n\n", b"0\n0\n", b"0\n10 x\n0\n", b"0\n\0", b"0x\n", b"00\n", b"-0\n", b"\n", b"\n0\n", b" 0\n", b"1 0 0 0 0\n", b"1 0 0 0 0\n\n0\n", b"asp 1 0 0\n0\n", b"10 a\n10 b\n0\n",
+    &[
+        b"", b"0", b"0\n", b"0 ", b"0 \n", b"0\r\n", b"0\t\n", b"0\n ", b"0\n\n", b"0\n0\n", b"0\n10 x\n0\n", b"0\n\0",
+        b"0x\n", b"00\n", b"-0\n", b"\n", b"\n0\n", b" 0\n", b"1 0 0 0 0\n", b"1 0 0 0 0\n\n0\n", b"asp 1 0 0\n0\n",
+        b"10 a\n10 b\n0\n",
+    ],
     // A field at the end of the text: its form, then what is carried and its range, then the early end.
-    b"2", b"1", b"11", b"01", b"1 ", b"1 0 2", b"1 0 1", b"1 0 1 1 0 1 -", b"1 0 1 1 0 1 1", b"1 0 1 1 0 1 0", b"1 0 1 1 0 1 4097", b"9 5 0", b"9 3", b"1 0 0 1", b"1 0 0 2", b"1 0 0 1 1", b"1 0 0 1 1000000001", b"1 0 0 1 -", b"1 0 0 1 1 1", b"1 0 0 1 1 1 2", b"1 0 0 1 1 1 2 0", b"1 0 0 1 1 1 2 1", b"1 1 4096 1", b"1 1 4097 1", b"9 0 0 -0",
+    &[
+        b"2", b"1", b"11", b"01", b"1 ", b"1 0 2", b"1 0 1", b"1 0 1 1 0 1 -", b"1 0 1 1 0 1 1", b"1 0 1 1 0 1 0",
+        b"1 0 1 1 0 1 4097", b"9 5 0", b"9 3", b"1 0 0 1", b"1 0 0 2", b"1 0 0 1 1", b"1 0 0 1 1000000001",
+        b"1 0 0 1 -", b"1 0 0 1 1 1", b"1 0 0 1 1 1 2", b"1 0 0 1 1 1 2 0", b"1 0 0 1 1 1 2 1", b"1 1 4096 1",
+        b"1 1 4097 1", b"9 0 0 -0",
+    ],
     // Strings and comments at the end of the text.
-    b"9 1 0 3 ab", b"9 1 0 3 abc", b"9 1 0 9 a\0b", b"9 1 0 9 a\nb", b"9 1 0 9 ", b"9 1 0 9", b"9 1 0 0 ", b"9 1 0 0", b"9 1 0 4097", b"10", b"10 ", b"10 abc", b"10 a\0c", b"4 1 a 0",
+    &[
+        b"9 1 0 3 ab", b"9 1 0 3 abc", b"9 1 0 9 a\0b", b"9 1 0 9 a\nb", b"9 1 0 9 ", b"9 1 0 9", b"9 1 0 0 ",
+        b"9 1 0 0", b"9 1 0 4097", b"10", b"10 ", b"10 abc", b"10 a\0c", b"4 1 a 0",
+    ],
 ];
 
 // Whole texts with a fault in the first line or none.
 const WHOLE: &[&[u8]] = &[
-    b"0\n", b"1 0 0 0 0\n0\n", b"\n", b" asp 1 0 0\n0\n", b"asp 1 0 0 incremental\n0\n", b"asp 1 0 0 ", b"asp 1 0 0 \n0\n", b"asp 1 0 00\n0\n", b"asp 1 0 0\r\n0\n", b"asp 1 0 0\t\n0\n", b"asp 1 0 0\0\n0\n", b"asp 1 0 1\n0\n", b"asp 2 0 0\n0\n", b"asp  1 0 0\n0\n", b"ASP 1 0 0\n0\n", b"\xef\xbb\xbfasp 1 0 0\n0\n",
+    b"0\n", b"1 0 0 0 0\n0\n", b"\n", b" asp 1 0 0\n0\n", b"asp 1 0 0 incremental\n0\n", b"asp 1 0 0 ",
+    b"asp 1 0 0 \n0\n", b"asp 1 0 00\n0\n", b"asp 1 0 0\r\n0\n", b"asp 1 0 0\t\n0\n", b"asp 1 0 0\0\n0\n",
+    b"asp 1 0 1\n0\n", b"asp 2 0 0\n0\n", b"asp  1 0 0\n0\n", b"ASP 1 0 0\n0\n", b"\xef\xbb\xbfasp 1 0 0\n0\n",
 ];
 
 // Candidates.
-const CANDIDATES: &[&[u8]] = &[
+const CANDIDATES: &[&[&[u8]]] = &[
     // Right ones.
-    b"\n", b"1\n", b"2\n", b"3\n", b"1 2 3\n", b"1 3\n", b"2 3\n", b"9 10\n", b"99 100 4095 4096\n", b"4096\n", b"1 4096\n", b"7 8 9 10 11 12 13 14 15 16 17 18 19 20\n",
+    &[
+        b"\n", b"1\n", b"2\n", b"3\n", b"1 2 3\n", b"1 3\n", b"2 3\n", b"9 10\n", b"99 100 4095 4096\n", b"4096\n",
+        b"1 4096\n", b"7 8 9 10 11 12 13 14 15 16 17 18 19 20\n",
+    ],
     // Nothing, and no line end.
-    b"", b"1", b"1 2", b"1 ", b" ", b"4096", b"4097", b"1 1", b"1 4097", b"-",
+    &[b"", b"1", b"1 2", b"1 ", b" ", b"4096", b"4097", b"1 1", b"1 4097", b"-"],
     // Something after the line end.
-    b"\n\n", b"\n1\n", b"\n ", b"\n\0", b"1\n\n", b"1\n ", b"1\n2\n", b"1 2\n3",
+    &[b"\n\n", b"\n1\n", b"\n ", b"\n\0", b"1\n\n", b"1\n ", b"1\n2\n", b"1 2\n3"],
     // Spaces.
-    b" \n", b" 1\n", b"1 \n", b"1  2\n", b"1 2 \n", b"1 2  \n",
+    &[b" \n", b" 1\n", b"1 \n", b"1  2\n", b"1 2 \n", b"1 2  \n"],
     // Forms.
-    b"01\n", b"00\n", b"-1\n", b"+1\n", b"x\n", b"1x\n", b"1 2x\n", b"1 02\n", b"1 -2\n", b"1\t2\n", b"1,2\n", b"1\r\n", b"1 \r\n", b"1 2\0\n", b"\0\n", b"1\x80\n", b"1 \xff\n", b"asp 1 0 0\n",
+    &[
+        b"01\n", b"00\n", b"-1\n", b"+1\n", b"x\n", b"1x\n", b"1 2x\n", b"1 02\n", b"1 -2\n", b"1\t2\n", b"1,2\n",
+        b"1\r\n", b"1 \r\n", b"1 2\0\n", b"\0\n", b"1\x80\n", b"1 \xff\n", b"asp 1 0 0\n",
+    ],
     // Order and range.
-    b"0\n", b"0 1\n", b"4097\n", b"1 4097\n", b"4096 4097\n", b"2 1\n", b"2 2\n", b"1 2 2\n", b"1 2 3 2 x", b"3 4 4097 -", b"1 0\n", b"4294967297\n", b"1 18446744073709551618\n", b"10 9\n",
+    &[
+        b"0\n", b"0 1\n", b"4097\n", b"1 4097\n", b"4096 4097\n", b"2 1\n", b"2 2\n", b"1 2 2\n", b"1 2 3 2 x",
+        b"3 4 4097 -", b"1 0\n", b"4294967297\n", b"1 18446744073709551618\n", b"10 9\n",
+    ],
 ];
 
 // A name for some bytes: `_` for a space, `%` and two digits for a byte that can't stand in a name.
@@ -222,9 +291,9 @@ pub fn texts() -> Vec<Case> {
     let mut cases = published();
     cases.extend(first_lines());
     cases.extend(WHOLE.iter().map(whole));
-    cases.extend(BEHIND.iter().map(behind));
+    cases.extend(BEHIND.concat().iter().map(behind));
     cases.extend(systematic());
-    cases.extend(SINGLE.iter().map(|l| single(l)));
+    cases.extend(SINGLE.concat().iter().map(|l| single(l)));
     cases.extend(long_numbers());
     cases.extend(plans());
     once(cases)
@@ -235,7 +304,7 @@ pub fn candidates() -> Vec<Case> {
     let short = |b: &&[u8]| named(format!("cand:{}", shown(b)), b);
     let long = format!("7{}\n", "0".repeat(999));
     let many: Vec<String> = (1..=4096).step_by(3).map(|a: u32| a.to_string()).collect();
-    let mut cases: Vec<Case> = CANDIDATES.iter().map(short).collect();
+    let mut cases: Vec<Case> = CANDIDATES.concat().iter().map(short).collect();
     cases.push(named("cand-long", long));
     cases.push(named("cand-many", many.join(" ") + "\n"));
     once(cases)

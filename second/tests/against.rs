@@ -162,7 +162,8 @@ fn other_examples() {
     let text = wrap("1 0 1 1 0 1 -1\n");
     assert_eq!(compare(&text, "\n"), refused(8, 10));
     assert_eq!(compare(&text, "1\n"), refused(9, 1));
-    let text = wrap("9 1 0 4 diff\n9 1 1 1 -\n9 1 2 2 <=\n9 0 3 0\n9 2 4 1 2 3 3\n9 4 0 1 4 0\n9 0 5 -1\n9 6 7 0 1 0 2 5\n");
+    let text =
+        wrap("9 1 0 4 diff\n9 1 1 1 -\n9 1 2 2 <=\n9 0 3 0\n9 2 4 1 2 3 3\n9 4 0 1 4 0\n9 0 5 -1\n9 6 7 0 1 0 2 5\n");
     assert_eq!(compare(&text, "7\n"), refused(10, 1));
     assert_eq!(cycle_of(&text, "7\n"), [7]);
     assert_eq!(compare("", "\n"), refused(3, 0));
@@ -306,7 +307,14 @@ fn the_largest_candidates_and_tables() {
 fn long_chains() {
     let mut both = Both::wide(9);
     for names in [2, 3, 4, 10, 100, 300, 508] {
-        for (bound, close) in [(-1_000_000, None), (-1, Some(names as i64 - 1)), (-1, Some(names as i64 - 2)), (0, Some(-1)), (1, Some(0)), (-7, Some(-1))] {
+        for (bound, close) in [
+            (-1_000_000, None),
+            (-1, Some(names as i64 - 1)),
+            (-1, Some(names as i64 - 2)),
+            (0, Some(-1)),
+            (1, Some(0)),
+            (-7, Some(-1)),
+        ] {
             let (text, cand) = generating::chain(names, bound, close);
             both.compare(&text, &cand);
         }
@@ -355,7 +363,10 @@ fn damaged() {
 
 // Fields of any kind in lines of any length, often with the header and the `0` line.
 fn any_text(random: &mut Random) -> Vec<u8> {
-    let words = ["0", "1", "2", "3", "4", "5", "6", "9", "10", "-1", "-2", "-3", "-4", "12", "1023", "1024", "4096", "4097", "100001", "1000000001", "a", "", "00", "diff", "-", "<="];
+    let words = [
+        "0", "1", "2", "3", "4", "5", "6", "9", "10", "-1", "-2", "-3", "-4", "12", "1023", "1024", "4096", "4097",
+        "100001", "1000000001", "a", "", "00", "diff", "-", "<=",
+    ];
     let mut text = if random.once_in(20) { vec![] } else { b"asp 1 0 0\n".to_vec() };
     for _ in 0..random.below(5) {
         let first = ["1 0", "1 1", "1 0 1 1 1", "4 1 a", "9 0", "9 1", "9 2", "9 4", "9 5", "9 6", "10 x"];
@@ -459,7 +470,10 @@ fn table(random: &mut Random) -> Vec<u8> {
 
 // Damages a slice that may be a timetable.
 fn damage_table(random: &mut Random, bytes: &mut Vec<u8>) {
-    let edges = [0, 1, 2, 3, 15, 16, 17, 24, 32, 1023, 1024, 4096, 4097, 1_023_000_000, 1_023_000_001, 0x2000_0000, 0x4000_0000, 0x8000_0000, u32::MAX];
+    let edges = [
+        0, 1, 2, 3, 15, 16, 17, 24, 32, 1023, 1024, 4096, 4097, 1_023_000_000, 1_023_000_001, 0x2000_0000, 0x4000_0000,
+        0x8000_0000, 0xFFFF_FFFF,
+    ];
     match random.below(5) {
         0 => bytes.truncate(random.below(bytes.len() + 1)),
         1 => bytes.extend(vec![0; 1 + random.below(9)]),

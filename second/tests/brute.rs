@@ -4,7 +4,10 @@ use common::writing::written;
 use common::*;
 use second::generating;
 use second::random::Random;
-use second::{check_cycle, describe, read_candidate, read_text, terms, time, Body, Difference, Line, Literal, Refusal, Statement, Verdict, Weighted};
+use second::{
+    check_cycle, describe, read_candidate, read_text, terms, time, Body, Difference, Line, Literal, Refusal, Statement,
+    Verdict, Weighted,
+};
 use std::collections::BTreeMap;
 
 // A set of the atoms 1 to 20 as bits.
@@ -17,7 +20,11 @@ fn bit(atom: u32) -> Bits {
 
 // Whether a literal is true with the positive atoms from one set, the negated from another.
 fn literal_true(literal: &Literal, positive: Bits, negated: Bits) -> bool {
-    if literal.negated { negated & bit(literal.atom) == 0 } else { positive & bit(literal.atom) != 0 }
+    if literal.negated {
+        negated & bit(literal.atom) == 0
+    } else {
+        positive & bit(literal.atom) != 0
+    }
 }
 
 // Whether a body is true with the positive atoms from one set, the negated from another. With a model of the reduct and
@@ -26,7 +33,8 @@ fn body_true(body: &Body, positive: Bits, negated: Bits) -> bool {
     match body {
         Body::Normal(literals) => literals.iter().all(|l| literal_true(l, positive, negated)),
         Body::Weights { bound, literals } => {
-            let weight = |w: &Weighted| if literal_true(&w.literal, positive, negated) { i64::from(w.weight) } else { 0 };
+            let weight =
+                |w: &Weighted| if literal_true(&w.literal, positive, negated) { i64::from(w.weight) } else { 0 };
             let missing = literals.iter().fold(i64::from(*bound), |missing, w| missing - weight(w));
             missing <= 0
         }
@@ -36,7 +44,9 @@ fn body_true(body: &Body, positive: Bits, negated: Bits) -> bool {
 // Whether a plain rule is satisfied by X.
 fn satisfied(statement: &Statement, x: Bits) -> bool {
     match statement {
-        Statement::Rule { choice: false, head, body } => !body_true(body, x, x) || head.iter().any(|a| x & bit(*a) != 0),
+        Statement::Rule { choice: false, head, body } => {
+            !body_true(body, x, x) || head.iter().any(|a| x & bit(*a) != 0)
+        }
         _ => true,
     }
 }
@@ -55,7 +65,8 @@ fn models_reduct(lines: &[Line], facts: Bits, y: Bits, x: Bits) -> bool {
 
 // The externals of X.
 fn facts(lines: &[Line], differences: &[Difference], x: Bits) -> Bits {
-    let in_head = |a: u32| lines.iter().any(|l| matches!(&l.statement, Statement::Rule { head, .. } if head.contains(&a)));
+    let in_head =
+        |a: u32| lines.iter().any(|l| matches!(&l.statement, Statement::Rule { head, .. } if head.contains(&a)));
     differences.iter().filter(|d| !in_head(d.atom)).map(|d| bit(d.atom)).fold(0, |a, b| a | b) & x
 }
 
@@ -235,7 +246,9 @@ fn small_plan(text: &[u8]) -> bool {
     let lines = read_text(text).unwrap();
     terms(&lines).unwrap().iter().all(|d| d.atom < 20)
         && lines.iter().all(|l| match &l.statement {
-            Statement::Rule { head, body, .. } => head.iter().all(|a| *a < 20) && literals_of(body).iter().all(|l| l.atom < 20),
+            Statement::Rule { head, body, .. } => {
+                head.iter().all(|a| *a < 20) && literals_of(body).iter().all(|l| l.atom < 20)
+            }
             _ => true,
         })
 }
@@ -309,7 +322,9 @@ fn string_in(before: &[Line], t: u32) -> Option<Vec<u8>> {
 // A compound as the bytes of its t and its arguments.
 fn compound_in(before: &[Line], t: u32) -> Option<(Vec<u8>, Vec<u32>)> {
     match term_in(before, t)? {
-        Statement::Compound { base: second::Base::Term(b), arguments, .. } => Some((string_in(before, *b)?, arguments.clone())),
+        Statement::Compound { base: second::Base::Term(b), arguments, .. } => {
+            Some((string_in(before, *b)?, arguments.clone()))
+        }
         _ => None,
     }
 }
@@ -381,7 +396,10 @@ fn cut_texts() {
         for end in 10..text.len() {
             let got = read_text(&text[..end]).unwrap_err();
             let lone_minus = text[end - 1] == b'-' && got.place as usize == end - 1;
-            assert!(got.number == 3 && (got.place as usize == end || lone_minus) || cut_selector(&text, end), "{got:?} {end}");
+            assert!(
+                got.number == 3 && (got.place as usize == end || lone_minus) || cut_selector(&text, end),
+                "{got:?} {end}"
+            );
         }
     }
 }
@@ -445,7 +463,9 @@ fn extended(random: &mut Random, text: &[u8], cand: &[u8]) -> Option<(Vec<u8>, V
     let mut elements_used: Vec<u32> = Vec::new();
     for l in &lines {
         match &l.statement {
-            Statement::Number { term, .. } | Statement::Symbol { term, .. } | Statement::Compound { term, .. } => terms_used.push(*term),
+            Statement::Number { term, .. } | Statement::Symbol { term, .. } | Statement::Compound { term, .. } => {
+                terms_used.push(*term)
+            }
             Statement::Element { element, .. } => elements_used.push(*element),
             _ => (),
         }
@@ -502,7 +522,11 @@ fn compare(old: &Judged, new: &Judged, text: &[u8]) -> &'static str {
         }
         (Verdict::Refused(a), b) => {
             assert_eq!(Verdict::Refused(a), b);
-            if a.number == 8 { "broken" } else { "unfounded" }
+            if a.number == 8 {
+                "broken"
+            } else {
+                "unfounded"
+            }
         }
     }
 }

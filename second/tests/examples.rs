@@ -76,7 +76,8 @@ fn weights() {
 
 #[test]
 fn a_cycle_of_one() {
-    let text = wrap("9 1 0 4 diff\n9 1 1 1 -\n9 1 2 2 <=\n9 0 3 0\n9 2 4 1 2 3 3\n9 4 0 1 4 0\n9 0 5 -1\n9 6 7 0 1 0 2 5\n");
+    let text =
+        wrap("9 1 0 4 diff\n9 1 1 1 -\n9 1 2 2 <=\n9 0 3 0\n9 2 4 1 2 3 3\n9 4 0 1 4 0\n9 0 5 -1\n9 6 7 0 1 0 2 5\n");
     let got = judged(text.as_bytes(), b"7\n");
     assert_eq!((got.verdict, got.cycle), (refused(10, 1), vec![7]));
     assert!(check_cycle(text.as_bytes(), b"7\n", &[7]));
@@ -195,7 +196,8 @@ fn timetable_reader() {
         table[4 * word..4 * word + 4].copy_from_slice(&value.to_le_bytes());
         time(&table, 3)
     };
-    for (word, value) in [(0, 1), (0, 3), (0, 0x2000_0002), (1, 2), (1, 0x4000_0003), (2, 15), (2, 0), (3, 33), (3, 31)] {
+    for (word, value) in [(0, 1), (0, 3), (0, 0x2000_0002), (1, 2), (1, 0x4000_0003), (2, 15), (2, 0), (3, 33), (3, 31)]
+    {
         assert_eq!(with(word, value), not_a_table);
     }
     assert_eq!(with(4, 4), not_a_table);

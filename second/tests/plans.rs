@@ -39,7 +39,8 @@ fn named(name: &str) -> Pair {
 #[test]
 fn changes_change() {
     let plan = named("P-7").text;
-    let same: Vec<String> = pairs().into_iter().skip(8).filter(|p| p.text == plan && p.cand == b"1 2 3\n").map(|p| p.name).collect();
+    let same: Vec<String> =
+        pairs().into_iter().skip(8).filter(|p| p.text == plan && p.cand == b"1 2 3\n").map(|p| p.name).collect();
     // The last line has no next: it is moved behind nothing.
     assert_eq!(same, ["behind-18"]);
 }
@@ -47,7 +48,14 @@ fn changes_change() {
 #[test]
 fn flow_shop_is_as_published() {
     // dl((a,1)), dl((a,2)), dl((b,1)), .. of the six answers in section 7.1 of source document 002.
-    let published = [[1, 7, 0, 1, 4, 11], [6, 16, 5, 10, 0, 5], [0, 3, 8, 13, 3, 8], [6, 12, 0, 1, 1, 7], [0, 3, 3, 7, 4, 13], [5, 10, 8, 14, 0, 5]];
+    let published = [
+        [1, 7, 0, 1, 4, 11],
+        [6, 16, 5, 10, 0, 5],
+        [0, 3, 8, 13, 3, 8],
+        [6, 12, 0, 1, 1, 7],
+        [0, 3, 3, 7, 4, 13],
+        [5, 10, 8, 14, 0, 5],
+    ];
     for (i, times) in published.into_iter().enumerate() {
         let lines: String = (4..).zip(times).map(|(term, time)| format!("{term} {time}\n")).collect();
         for (name, atoms) in [("flow-shop", 15), ("flow-shop-whole", 36)] {
@@ -91,11 +99,13 @@ fn cycles_are_the_only_ones() {
     let mut seen = 0;
     for pair in pairs() {
         let (mut room, mut cycle) = (vec![0; 24_592], vec![0; 1_024]);
-        let Verdict::Refused(Refusal { number: 10, place }) = judge(&pair.text, &pair.cand, &mut room, &mut cycle) else {
+        let Verdict::Refused(Refusal { number: 10, place }) = judge(&pair.text, &pair.cand, &mut room, &mut cycle)
+        else {
             continue;
         };
         let x = read_candidate(&pair.cand).unwrap();
-        let force: Vec<Difference> = terms(&read_text(&pair.text).unwrap()).unwrap().into_iter().filter(|d| x.contains(&d.atom)).collect();
+        let force: Vec<Difference> =
+            terms(&read_text(&pair.text).unwrap()).unwrap().into_iter().filter(|d| x.contains(&d.atom)).collect();
         let all: Vec<Vec<u32>> = force.iter().flat_map(|d| cycles(&force, &mut vec![*d])).collect();
         assert_eq!(all, [cycle[..place as usize].to_vec()], "{}", pair.name);
         seen += 1;

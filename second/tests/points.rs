@@ -119,7 +119,9 @@ fn long_digits() {
         assert_eq!(line(format!("9 5 {big} 0 0")), Some((5, 4)));
         assert_eq!(cand(format!("{big}\n")), Some((7, 0)));
     }
-    for big in [nines.as_str(), tens.as_str(), "4294967296", "4294967297", "18446744073709551616", "18446744073709551617"] {
+    for big in
+        [nines.as_str(), tens.as_str(), "4294967296", "4294967297", "18446744073709551616", "18446744073709551617"]
+    {
         assert_eq!(line(format!("1 0 0 1 {big} 0")), Some((5, 8)));
         assert_eq!(line(format!("1 0 0 1 1 1 2 {big}")), Some((5, 14)));
     }
@@ -404,7 +406,10 @@ fn bounds(statements: &str) -> Vec<(u32, u32, u32, i64)> {
 fn signed_bounds() {
     assert_eq!(bounds("9 6 1 0 1 0 2 4\n"), [(1, 3, 4, 7)]);
     assert_eq!(bounds("9 2 6 1 1 4\n9 6 1 0 1 0 2 6\n"), [(1, 3, 4, -7)]);
-    assert_eq!(bounds("9 0 6 -1000000\n9 2 7 1 1 6\n9 6 1 0 1 0 2 7\n9 6 2 0 1 0 2 6\n"), [(1, 3, 4, 1_000_000), (2, 3, 4, -1_000_000)]);
+    assert_eq!(
+        bounds("9 0 6 -1000000\n9 2 7 1 1 6\n9 6 1 0 1 0 2 7\n9 6 2 0 1 0 2 6\n"),
+        [(1, 3, 4, 1_000_000), (2, 3, 4, -1_000_000)]
+    );
     assert_eq!(bounds("9 1 6 1 -\n9 2 7 6 1 4\n9 6 1 0 1 0 2 7\n"), [(1, 3, 4, -7)]);
     assert_eq!(more("9 2 6 1 1 4\n9 2 7 1 1 6\n9 6 1 0 1 0 2 7\n"), Some(24));
     assert_eq!(more("9 2 6 1 2 4 4\n9 6 1 0 1 0 2 6\n"), Some(14));

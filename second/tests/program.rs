@@ -35,7 +35,8 @@ fn judges_files() {
 #[test]
 fn describes_files() {
     let p = file("p2.aspif", P.as_bytes());
-    assert!(run(&["--read", &p]).starts_with("read 17\n1 10 1 1 1 0 0 0\n1 22 0 1 2 0 0 1 2\n1 36 0 1 3 0 0 0\n91 48 0 4 100 105 102 102\n"));
+    assert!(run(&["--read", &p])
+        .starts_with("read 17\n1 10 1 1 1 0 0 0\n1 22 0 1 2 0 0 1 2\n1 36 0 1 3 0 0 0\n91 48 0 4 100 105 102 102\n"));
     assert_eq!(run(&["--read", "/no/such/file"]), "refused 3 0\n");
     assert_eq!(run(&["--candidate", "/no/such/file"]), "refused 7 0\n");
     assert_eq!(run(&["--candidate", &file("c.cand", b"3 4\n")]), "candidate 2 3 4\n");

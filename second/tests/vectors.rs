@@ -40,7 +40,8 @@ fn names_are_names() {
 #[test]
 fn runs_both() {
     let out = run(&texts(), &candidates());
-    assert!(out.starts_with("listing-49\nread 6\n1 10 1 1 1 0 0 0\n1 22 0 1 2 0 0 1 2\n1 36 0 1 3 0 0 1 3\n4 51 1 97 1 2\n"));
+    assert!(out
+        .starts_with("listing-49\nread 6\n1 10 1 1 1 0 0 0\n1 22 0 1 2 0 0 1 2\n1 36 0 1 3 0 0 1 3\n4 51 1 97 1 2\n"));
     assert!(out.contains("\nlisting-49-weights\nread 6\n1 10 1 1 1 0 0 0\n1 22 0 1 2 1 1 1 16386\n"));
     assert!(out.contains("\nP-0\nrefused 3 0\n"));
     assert!(out.contains("\ncand:\nrefused 7 0\n"));

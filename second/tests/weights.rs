@@ -75,9 +75,9 @@ fn note(seen: &mut Seen, statement: &Statement) {
 
 /// What the rules with weights must be, each often enough.
 const WANTED: &[&str] = &[
-    "plain", "choice", "choice of none", "constraint", "bound 0", "bound 1", "bound the sum", "bound one above the sum",
-    "bound 1,000,000,000", "bound between", "weight 1", "weight 2", "weight 100,000", "weight small", "no literal",
-    "a literal twice", "both signs", "negated",
+    "plain", "choice", "choice of none", "constraint", "bound 0", "bound 1", "bound the sum",
+    "bound one above the sum", "bound 1,000,000,000", "bound between", "weight 1", "weight 2", "weight 100,000",
+    "weight small", "no literal", "a literal twice", "both signs", "negated",
 ];
 
 // Asks that a third of the rules in some texts have weights, and that these are all that is wanted.
@@ -186,7 +186,9 @@ fn a_literal_twice_counts_twice() {
 #[test]
 fn what_can_not_be_true_counts_nothing() {
     // No atom above 1,000 is in a head or has a difference.
-    says_the_same(16, |body| with_literals(body, |list| [list, &[weighted(Literal { atom: 1_001, negated: false }, 7)]].concat()));
+    says_the_same(16, |body| {
+        with_literals(body, |list| [list, &[weighted(Literal { atom: 1_001, negated: false }, 7)]].concat())
+    });
 }
 
 #[test]

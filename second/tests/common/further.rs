@@ -130,7 +130,13 @@ pub fn extended(random: &mut Random, text: &[u8], cand: &[u8]) -> Option<Extende
 }
 
 /// Checks demand 3 of an old and a new judging; a word for each part that was seen.
-pub fn check(old: &Judged, new: &Judged, text: &[u8], e: &Extended, time: fn(&[u8], u32) -> Result<u32, Refusal>) -> Vec<&'static str> {
+pub fn check(
+    old: &Judged,
+    new: &Judged,
+    text: &[u8],
+    e: &Extended,
+    time: fn(&[u8], u32) -> Result<u32, Refusal>,
+) -> Vec<&'static str> {
     match old.verdict {
         Verdict::Accepted(_) => check_accepted(old, new, text, e, time),
         Verdict::Refused(Refusal { number: 8, place }) => {
@@ -157,7 +163,13 @@ fn check_cyclic(new: &Judged, e: &Extended) {
 }
 
 // The parts for an old plan that was accepted: exactly if times exist; none earlier; none moved.
-fn check_accepted(old: &Judged, new: &Judged, text: &[u8], e: &Extended, time: fn(&[u8], u32) -> Result<u32, Refusal>) -> Vec<&'static str> {
+fn check_accepted(
+    old: &Judged,
+    new: &Judged,
+    text: &[u8],
+    e: &Extended,
+    time: fn(&[u8], u32) -> Result<u32, Refusal>,
+) -> Vec<&'static str> {
     let (old_names, _) = in_force(&read_plan(text).unwrap().differences, &[]);
     let differences = read_plan(&e.text).unwrap().differences;
     let (names, force) = in_force(&differences, &read_candidate(&e.cand).unwrap());

@@ -133,7 +133,8 @@ const HEAVIEST: [(u32, bool); 6] =
 pub fn check_heaviest(judge: impl Fn(&str, &str) -> Verdict) {
     for (bound, reached) in HEAVIEST {
         let text = heaviest(bound);
-        let unlike = if reached { [Verdict::Accepted(24), refused(8, 22)] } else { [refused(9, 1), Verdict::Accepted(20)] };
+        let unlike =
+            if reached { [Verdict::Accepted(24), refused(8, 22)] } else { [refused(9, 1), Verdict::Accepted(20)] };
         assert_eq!(["1 2\n", "2\n"].map(|cand| judge(&text, cand)), unlike, "{bound}");
         assert_eq!(judge(&text, "\n"), if bound == 0 { refused(8, 22) } else { Verdict::Accepted(16) }, "{bound}");
     }

@@ -19,7 +19,11 @@ fn counted(numbers: &[u32]) -> Vec<i64> {
 
 // A literal as an integer.
 fn signed(literal: &Literal) -> i64 {
-    if literal.negated { -i64::from(literal.atom) } else { i64::from(literal.atom) }
+    if literal.negated {
+        -i64::from(literal.atom)
+    } else {
+        i64::from(literal.atom)
+    }
 }
 
 // A count and the literals.
@@ -41,12 +45,17 @@ fn body_numbers(body: &Body) -> Vec<i64> {
 /// The line of a statement, without its end.
 pub fn written(statement: &Statement) -> Vec<u8> {
     match statement {
-        Statement::Rule { choice, head, body } => words("1", &[one(u32::from(*choice)), counted(head), body_numbers(body)]),
+        Statement::Rule { choice, head, body } => {
+            words("1", &[one(u32::from(*choice)), counted(head), body_numbers(body)])
+        }
         Statement::Output { string, condition } => {
-            [words("4", &[vec![string.len() as i64]]), b" ".to_vec(), string.clone(), words("", &[literals(condition)])].concat()
+            [words("4", &[vec![string.len() as i64]]), b" ".to_vec(), string.clone(), words("", &[literals(condition)])]
+                .concat()
         }
         Statement::Number { term, value } => words("9 0", &[one(*term), vec![i64::from(*value)]]),
-        Statement::Symbol { term, string } => [words("9 1", &[one(*term), vec![string.len() as i64]]), b" ".to_vec(), string.clone()].concat(),
+        Statement::Symbol { term, string } => {
+            [words("9 1", &[one(*term), vec![string.len() as i64]]), b" ".to_vec(), string.clone()].concat()
+        }
         Statement::Compound { term, base, arguments } => {
             let t = match base {
                 Base::Tuple => -1,
@@ -56,7 +65,9 @@ pub fn written(statement: &Statement) -> Vec<u8> {
             };
             words("9 2", &[one(*term), vec![t], counted(arguments)])
         }
-        Statement::Element { element, terms, condition } => words("9 4", &[one(*element), counted(terms), literals(condition)]),
+        Statement::Element { element, terms, condition } => {
+            words("9 4", &[one(*element), counted(terms), literals(condition)])
+        }
         Statement::Theory { atom, name, elements, guard } => match guard {
             None => words("9 5", &[one(*atom), one(*name), counted(elements)]),
             Some((g, u)) => words("9 6", &[one(*atom), one(*name), counted(elements), one(*g), one(*u)]),
