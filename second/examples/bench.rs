@@ -15,9 +15,10 @@ fn main() {
 
 #[cfg(plan_judge)]
 mod measured {
-    use second::generating;
-    use second::judging::{CYCLE_PLACES, ROOM_BYTES};
-    use second::{proved, Refusal, Verdict};
+    use second::judge::judging::{CYCLE_PLACES, ROOM_BYTES};
+    use second::testing::generating;
+    use second::testing::proved;
+    use second::{Refusal, Verdict};
     use std::hint::black_box;
     use std::time::Instant;
 

@@ -1,7 +1,7 @@
 //! The program: judges two files, or prints what reading one gives.
 
-use second::random::Random;
-use second::{container, generating, plans, vectors};
+use second::testing::random::Random;
+use second::testing::{container, generating, plans, vectors};
 use std::io::Write;
 
 // The bytes of a file; none if it can't be opened.

@@ -3,9 +3,11 @@
 #![cfg(plan_judge)]
 mod common;
 use common::{check_heaviest, check_traps, further, judged_by, q, refused, wrap, P};
-use second::judging::{CYCLE_PLACES, ROOM_BYTES};
-use second::random::Random;
-use second::{check_cycle, generating, proved, timetable, Refusal, Verdict};
+use second::judge::judging::{CYCLE_PLACES, ROOM_BYTES};
+use second::judge::timetable;
+use second::testing::random::Random;
+use second::testing::{generating, proved};
+use second::{check_cycle, Refusal, Verdict};
 use std::collections::BTreeMap;
 
 // A number from the environment.

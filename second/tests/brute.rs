@@ -2,8 +2,8 @@
 mod common;
 use common::writing::written;
 use common::*;
-use second::generating;
-use second::random::Random;
+use second::testing::generating;
+use second::testing::random::Random;
 use second::{
     check_cycle, describe, read_candidate, read_text, terms, time, Body, Difference, Line, Literal, Refusal, Statement,
     Verdict, Weighted,

@@ -99,10 +99,10 @@ fn empty_things() {
 
 #[test]
 fn text_length() {
-    let text = second::generating::long_text(60_000);
+    let text = second::testing::generating::long_text(60_000);
     assert_eq!(text.len(), 60_000);
     assert_eq!(verdict(&text, "\n"), Verdict::Accepted(16));
-    let text = second::generating::long_text(60_001);
+    let text = second::testing::generating::long_text(60_001);
     assert_eq!(text.len(), 60_001);
     assert_eq!(verdict(&text, "\n"), refused(2, 60_000));
     assert_eq!(second::describe(&text), "refused 2 60000\n");
@@ -159,7 +159,7 @@ fn shown() {
 fn rooms() {
     let mut room = vec![7u8; 24_592];
     let mut cycle = vec![7u32; 1_024];
-    let long = second::generating::long_text(60_001);
+    let long = second::testing::generating::long_text(60_001);
     for text in [P.as_bytes(), b"", &long] {
         assert_eq!(second::judge(text, b"", &mut room[..24_591], &mut cycle[..1_023]), refused(1, 24_592));
         assert_eq!(second::judge(text, b"", &mut room, &mut cycle[..1_023]), refused(1, 1_024));

@@ -1,6 +1,6 @@
 //! The judge's vectors.
-use second::container::{read, write};
-use second::plans::{cases, every, long, paired, pairs, run, Pair, GROUNDED};
+use second::testing::container::{read, write};
+use second::testing::plans::{cases, every, long, paired, pairs, run, Pair, GROUNDED};
 use second::{judge, read_candidate, read_text, report, terms, Difference, Refusal, Verdict};
 use std::collections::HashSet;
 

@@ -28,7 +28,7 @@ fn judges_files() {
     assert_eq!(run(&[&p, "/no/such/file"]), "refused 7 0\n");
     assert_eq!(run(&["/no/such/file", &all]), "refused 3 0\n");
     assert_eq!(run(&["/no/such/file", "/no/such/file"]), "refused 3 0\n");
-    let long = file("long.aspif", &second::generating::long_text(60_001));
+    let long = file("long.aspif", &second::testing::generating::long_text(60_001));
     assert_eq!(run(&[&long, &all]), "refused 2 60000\n");
 }
 

@@ -1,6 +1,6 @@
 //! The reader's vectors and their container.
-use second::container::{read, write, Case};
-use second::vectors::{candidates, run, texts};
+use second::testing::container::{read, write, Case};
+use second::testing::vectors::{candidates, run, texts};
 use std::collections::HashSet;
 
 #[test]

@@ -2,8 +2,9 @@
 mod common;
 use common::writing::written;
 use common::*;
-use second::random::Random;
-use second::{generating, read_text, Body, Line, Literal, Refusal, Statement, Verdict, Weighted};
+use second::testing::generating;
+use second::testing::random::Random;
+use second::{read_text, Body, Line, Literal, Refusal, Statement, Verdict, Weighted};
 use std::collections::BTreeMap;
 
 /// How often each thing was seen.

@@ -1,8 +1,9 @@
 //! Plans with further time rules, and what demand 3 says of them.
 use super::{in_force, literals_of, negative_cycle, refused, Judged};
-use second::judging::read_plan;
-use second::random::Random;
-use second::{check_cycle, generating, read_candidate, Literal, Refusal, Statement, Verdict};
+use second::judge::judging::read_plan;
+use second::testing::generating;
+use second::testing::random::Random;
+use second::{check_cycle, read_candidate, Literal, Refusal, Statement, Verdict};
 use std::collections::BTreeSet;
 
 /// A plan with further time rules, and where its old lines stand now.

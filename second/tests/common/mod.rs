@@ -1,7 +1,7 @@
 #![allow(dead_code)]
 pub mod further;
 pub mod writing;
-use second::judging::{CYCLE_PLACES, ROOM_BYTES};
+use second::judge::judging::{CYCLE_PLACES, ROOM_BYTES};
 use second::{Body, Difference, Literal, Refusal, Verdict};
 
 pub const P: &str = "asp 1 0 0

@@ -1,8 +1,8 @@
 //! The reading of a candidate: refusal 7.
 
-use crate::fields::{Fields, Finding, LINE_END};
-use crate::reading::LARGEST_ATOM;
-use crate::refusal::Refusal;
+use super::fields::{Fields, Finding, LINE_END};
+use super::reading::LARGEST_ATOM;
+use super::refusal::Refusal;
 
 pub const MALFORMED: u32 = 7;
 

@@ -1,7 +1,7 @@
 //! Stable models: refusals 8 and 9.
 
-use crate::differences::Difference;
-use crate::reading::{Body, Line, Literal, Statement, Weighted};
+use super::differences::Difference;
+use super::reading::{Body, Line, Literal, Statement, Weighted};
 use std::collections::BTreeSet;
 
 /// A set of atoms.

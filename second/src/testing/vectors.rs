@@ -1,6 +1,6 @@
 //! The reader's test vectors, from document 01, "Reading the text" and "The candidate", document 02 and the decided points.
 
-use crate::container::Case;
+use super::container::Case;
 use crate::{describe, describe_candidate};
 
 const HEADER: &[u8] = b"asp 1 0 0\n";

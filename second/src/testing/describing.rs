@@ -1,9 +1,9 @@
 //! A printing of what reading gives, to compare two implementations.
 
-use crate::candidate::read_candidate;
-use crate::judging::check_length;
-use crate::reading::{read_text, Base, Body, Line, Literal, Statement, Weighted};
-use crate::refusal::Refusal;
+use crate::judge::candidate::read_candidate;
+use crate::judge::judging::check_length;
+use crate::judge::reading::{read_text, Base, Body, Line, Literal, Statement, Weighted};
+use crate::judge::refusal::Refusal;
 
 // One printed line of numbers.
 fn numbers_line(numbers: &[u64]) -> String {

@@ -1,12 +1,12 @@
 //! The judge's test vectors: pairs of a plan text and a candidate, from documents 01 and 02, the source documents and P's
 //! neighbours.
 
-use crate::container::Case;
-use crate::generating::{candidate_of, long_text};
-use crate::judging::{judge, report, show, CYCLE_PLACES, ROOM_BYTES};
-use crate::refusal::{Refusal, Verdict};
-use crate::timetable::time;
-use crate::vectors::{LISTING_49, LISTING_50, PLAN};
+use super::container::Case;
+use super::generating::{candidate_of, long_text};
+use super::vectors::{LISTING_49, LISTING_50, PLAN};
+use crate::judge::judging::{judge, report, show, CYCLE_PLACES, ROOM_BYTES};
+use crate::judge::refusal::{Refusal, Verdict};
+use crate::judge::timetable::time;
 
 /// A plan text and a candidate, with a name that has no space and no line end.
 #[derive(Clone, Debug, PartialEq, Eq)]

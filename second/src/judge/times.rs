@@ -1,6 +1,6 @@
 //! Earliest times and negative cycles: refusal 10.
 
-use crate::differences::Difference;
+use super::differences::Difference;
 use std::collections::{BTreeMap, BTreeSet};
 
 /// The earliest times, or the atoms of a negative cycle.

@@ -1,13 +1,13 @@
 //! The verdict, the showing of a fault, and the judging of a cycle list.
 
-use crate::candidate::read_candidate;
-use crate::differences::{terms, Difference};
-use crate::fields::LINE_END;
-use crate::meaning::{first_broken, smallest_unfounded, Atoms};
-use crate::reading::{read_text, Line, TEXT_BYTES};
-use crate::refusal::{refusal, Refusal, Verdict};
-use crate::times::{schedule, Schedule};
-use crate::timetable;
+use super::candidate::read_candidate;
+use super::differences::{terms, Difference};
+use super::fields::LINE_END;
+use super::meaning::{first_broken, smallest_unfounded, Atoms};
+use super::reading::{read_text, Line, TEXT_BYTES};
+use super::refusal::{refusal, Refusal, Verdict};
+use super::times::{schedule, Schedule};
+use super::timetable;
 use std::collections::BTreeMap;
 
 pub const ROOM_BYTES: usize = 24_592;

@@ -1,7 +1,7 @@
 //! The timetable's bytes: writing them, and refusals 20 and 21.
 
-use crate::reading::{LARGEST_ATOM, LARGEST_INDEX};
-use crate::refusal::Refusal;
+use super::reading::{LARGEST_ATOM, LARGEST_INDEX};
+use super::refusal::Refusal;
 
 pub const HEADER: u64 = 16;
 pub const NAME_RECORD: u64 = 8;

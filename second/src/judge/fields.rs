@@ -1,6 +1,6 @@
 //! Fields and separators, read from left to right.
 
-use crate::refusal::{refusal, Refusal};
+use super::refusal::{refusal, Refusal};
 
 pub const SPACE: u8 = 32;
 pub const LINE_END: u8 = 10;

@@ -1,7 +1,7 @@
 //! A container of named cases: for each a line `NAME LENGTH`, then so many bytes, then byte 10.
 
-use crate::fields::{natural_of, LINE_END, SPACE};
-use crate::reading::TEXT_BYTES;
+use crate::judge::fields::{natural_of, LINE_END, SPACE};
+use crate::judge::reading::TEXT_BYTES;
 
 /// Some bytes with a name that has no space and no line end.
 #[derive(Clone, Debug, PartialEq, Eq)]

@@ -1,7 +1,7 @@
 //! The reading of a plan text: refusals 3, 4 and 5.
 
-use crate::fields::{Fields, Finding, LINE_END, SPACE};
-use crate::refusal::{refusal, Refusal};
+use super::fields::{Fields, Finding, LINE_END, SPACE};
+use super::refusal::{refusal, Refusal};
 
 pub const GRAMMAR: u32 = 3;
 pub const NOT_CARRIED: u32 = 4;

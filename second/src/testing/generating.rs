@@ -1,9 +1,9 @@
 //! Random plans, candidates and damage, all from a fixed seed.
 
-use crate::judging::{read_plan, settle, Outcome, Plan};
-use crate::meaning::Atoms;
-use crate::random::Random;
-use crate::reading::{LARGEST_BOUND, LARGEST_WEIGHT};
+use super::random::Random;
+use crate::judge::judging::{read_plan, settle, Outcome, Plan};
+use crate::judge::meaning::Atoms;
+use crate::judge::reading::{LARGEST_BOUND, LARGEST_WEIGHT};
 
 /// A plan text and a candidate.
 pub type Case = (Vec<u8>, Vec<u8>);

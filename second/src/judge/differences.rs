@@ -1,7 +1,7 @@
 //! Terms, elements and difference atoms: refusal 6.
 
-use crate::reading::{Base, Line, Statement};
-use crate::refusal::Refusal;
+use super::reading::{Base, Line, Statement};
+use super::refusal::Refusal;
 use std::collections::{BTreeMap, BTreeSet};
 
 pub const UNSOUND: u32 = 6;

@@ -1,6 +1,6 @@
 //! The proved judge, called through its static library (`include/plan_judge.h`).
 
-use crate::refusal::{Refusal, Verdict};
+use crate::judge::refusal::{Refusal, Verdict};
 
 extern "C" {
     fn plan_judge(

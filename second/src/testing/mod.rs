@@ -1,0 +1,11 @@
+//! What the two judges are tried with and compared by: inputs that are generated or listed, their container, a printing
+//! of what was read, and the proved judge as it is linked.
+
+pub mod container;
+pub mod describing;
+pub mod generating;
+pub mod plans;
+#[cfg(plan_judge)]
+pub mod proved;
+pub mod random;
+pub mod vectors;
