@@ -5,6 +5,7 @@ mod common;
 use common::{check_heaviest, check_traps, further, judged_by, q, refused, wrap, P};
 use second::judge::judging::{CYCLE_PLACES, ROOM_BYTES};
 use second::judge::timetable;
+use second::testing::generating::{all_atoms, choice, padded};
 use second::testing::random::Random;
 use second::testing::{generating, proved};
 use second::{check_cycle, Refusal, Verdict};
@@ -225,12 +226,6 @@ fn rooms_too_short() {
     }
 }
 
-// A text of a length: a plan, with a comment before its last line.
-fn padded(text: &[u8], length: usize) -> Vec<u8> {
-    let comment = [b"10 ".to_vec(), vec![b'c'; length - text.len() - 4], b"\n0\n".to_vec()].concat();
-    [&text[..text.len() - 2], &comment].concat()
-}
-
 #[test]
 fn long_texts() {
     let mut both = Both::wide(5);
@@ -268,17 +263,6 @@ fn the_shortest_lines() {
     }
 }
 
-// A choice over atoms from 1 to some.
-fn choice(atoms: u32) -> String {
-    let all: Vec<String> = (1..=atoms).map(|a| a.to_string()).collect();
-    format!("1 1 {atoms} {} 0 0\n", all.join(" "))
-}
-
-// All atoms from 1 to some.
-fn all_atoms(atoms: u32) -> Vec<u8> {
-    generating::candidate_of(&(1..=atoms).collect::<Vec<u32>>())
-}
-
 // As many names as a plan can have, every term but the last: 512 differences, each with the bound -1,000,000.
 fn most_names() -> String {
     let mut lines = String::from("9 1 0 4 diff\n9 1 1 1 -\n9 1 2 2 <=\n9 0 3 -1000000\n");
@@ -293,16 +277,16 @@ fn most_names() -> String {
 #[test]
 fn the_largest_candidates_and_tables() {
     let mut both = Both::wide(7);
-    let text = wrap(&choice(4096));
-    assert_eq!(both.compare(text.as_bytes(), &all_atoms(4096)), Verdict::Accepted(16 + 4 * 4096));
-    assert_eq!(both.compare(text.as_bytes(), &all_atoms(4095)), Verdict::Accepted(16 + 4 * 4095));
-    assert_eq!(both.compare(text.as_bytes(), &all_atoms(4097)), refused(7, all_atoms(4096).len() as u32));
-    assert_eq!(both.compare(wrap(&choice(4095)).as_bytes(), &all_atoms(4096)), refused(9, 4096));
-    let text = wrap(&(choice(4096) + &most_names()));
+    let (text, all) = choice(4096);
+    assert_eq!(both.compare(&text, &all), Verdict::Accepted(16 + 4 * 4096));
+    assert_eq!(both.compare(&text, &all_atoms(4095)), Verdict::Accepted(16 + 4 * 4095));
+    assert_eq!(both.compare(&text, &all_atoms(4097)), refused(7, all.len() as u32));
+    assert_eq!(both.compare(&choice(4095).0, &all), refused(9, 4096));
+    let text = [&text[..text.len() - 2], most_names().as_bytes(), b"0\n"].concat();
     assert!(text.len() <= 60_000, "{}", text.len());
-    assert_eq!(both.compare(text.as_bytes(), &all_atoms(4096)), Verdict::Accepted(16 + 8 * 1023 + 4 * 4096));
+    assert_eq!(both.compare(&text, &all), Verdict::Accepted(16 + 8 * 1023 + 4 * 4096));
     let mut exact = Both::new(ROOM_BYTES, CYCLE_PLACES, 8);
-    assert_eq!(exact.compare(text.as_bytes(), &all_atoms(4096)), Verdict::Accepted(16 + 8 * 1023 + 4 * 4096));
+    assert_eq!(exact.compare(&text, &all), Verdict::Accepted(16 + 8 * 1023 + 4 * 4096));
 }
 
 #[test]
@@ -324,13 +308,13 @@ fn long_chains() {
     for (atoms, founded) in [(2, true), (2, false), (2500, true), (2500, false), (2600, true), (2600, false)] {
         let (text, cand) = generating::rule_chain(atoms, founded);
         both.compare(&text, &cand);
-        both.compare(&text, &all_atoms(atoms as u32 - 1));
-        both.compare(&text, &all_atoms(atoms as u32 + 1));
+        both.compare(&text, &all_atoms(atoms - 1));
+        both.compare(&text, &all_atoms(atoms + 1));
     }
     for (atoms, rounds) in [(4, 4), (30, 1), (30, 7), (1400, 1), (1400, 40), (1400, 1400)] {
         let (text, cand) = generating::weight_chain(atoms, rounds, true);
         assert_eq!(both.compare(&text, &cand), Verdict::Accepted(16 + 4 * atoms as u32));
-        both.compare(&text, &all_atoms(atoms as u32 - 1));
+        both.compare(&text, &all_atoms(atoms - 1));
         let (text, cand) = generating::weight_chain(atoms, rounds, false);
         assert_eq!(both.compare(&text, &cand), refused(9, 1));
     }

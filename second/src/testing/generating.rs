@@ -25,6 +25,11 @@ pub fn candidate_of<'a>(atoms: impl IntoIterator<Item = &'a u32>) -> Vec<u8> {
     (words.join(" ") + "\n").into_bytes()
 }
 
+// The candidate of the atoms from 1 to some.
+pub fn all_atoms(atoms: usize) -> Vec<u8> {
+    candidate_of(&(1..=atoms as u32).collect::<Vec<u32>>())
+}
+
 // A line of numbers.
 fn line_of(numbers: &[i64]) -> Vec<u8> {
     let words: Vec<String> = numbers.iter().map(i64::to_string).collect();
@@ -701,8 +706,7 @@ pub fn chain(names: usize, bound: i64, close: Option<i64>) -> Case {
         lines.push(line_of(&[9, 4, i, 1, first + i, 0]));
         lines.push(line_of(&[9, 6, i + 1, 0, 1, i, 2, bound]));
     }
-    let atoms: Vec<u32> = (1..=all.len() as u32).collect();
-    (text_of(&lines), candidate_of(&atoms))
+    (text_of(&lines), all_atoms(all.len()))
 }
 
 /// A chain of rules in the order that founds one atom a round.
@@ -712,8 +716,7 @@ pub fn rule_chain(atoms: usize, founded: bool) -> Case {
         (2..=atoms as i64).rev().map(|i| rule_line(false, &[i], &normal_body(&[i - 1]))).collect();
     let last = [atoms as i64];
     lines.push(rule_line(false, &[1], &normal_body(if founded { &[] } else { &last })));
-    let all: Vec<u32> = (1..=atoms as u32).collect();
-    (text_of(&lines), candidate_of(&all))
+    (text_of(&lines), all_atoms(atoms))
 }
 
 /// A chain of weight rules in an order that is founded in so many rounds.
@@ -727,8 +730,28 @@ pub fn weight_chain(atoms: usize, rounds: usize, founded: bool) -> Case {
     };
     let lines: Vec<Vec<u8>> = (1..=n).map(line).collect();
     let stretches: Vec<&[Vec<u8>]> = lines.chunks(atoms.div_ceil(rounds)).rev().collect();
-    let all: Vec<u32> = (1..=atoms as u32).collect();
-    (text_of(&stretches.concat()), candidate_of(&all))
+    (text_of(&stretches.concat()), all_atoms(atoms))
+}
+
+/// A choice over the atoms from 1 to some, and all of them.
+pub fn choice(atoms: usize) -> Case {
+    let head: Vec<i64> = (1..=atoms as i64).collect();
+    (text_of(&[rule_line(true, &head, &normal_body(&[]))]), all_atoms(atoms))
+}
+
+/// A readable text of exactly `length` bytes: a shorter one, with a comment before its `0` line.
+// The comment's line has four bytes without its own.
+pub fn padded(text: &[u8], length: usize) -> Vec<u8> {
+    let comment = vec![b'c'; length - text.len() - 4];
+    [&text[..text.len() - 2], b"10 ", &comment, b"\n0\n"].concat()
+}
+
+/// The largest case of some kind that a text of exactly `length` bytes holds.
+pub fn longest(length: usize, kind: impl Fn(usize) -> Case) -> Case {
+    let sizes: Vec<usize> = (4..=4_096).collect();
+    let fit = sizes.partition_point(|n| kind(*n).0.len() + 4 <= length);
+    let (text, cand) = kind(sizes[fit.saturating_sub(1)]);
+    (padded(&text, length), cand)
 }
 
 /// A readable text of exactly `length` bytes: one comment.
