@@ -709,6 +709,19 @@ pub fn chain(names: usize, bound: i64, close: Option<i64>) -> Case {
     (text_of(&lines), all_atoms(all.len()))
 }
 
+/// Differences that all say the same of two names: each has but one line of its own.
+pub fn same_differences(atoms: usize) -> Case {
+    let mut lines = strings();
+    lines.extend([&[9, 0, 3, -1][..], &[9, 0, 4, 0], &[9, 2, 5, 1, 2, 3, 4], &[9, 4, 0, 1, 5, 0]].map(line_of));
+    lines.extend((1..=atoms as i64).map(|atom| line_of(&[9, 6, atom, 0, 1, 0, 2, 3])));
+    (text_of(&lines), all_atoms(atoms))
+}
+
+/// Choices of nothing: no rule has a shorter line.
+pub fn shortest_rules(rules: usize) -> Case {
+    (text_of(&vec![rule_line(true, &[], &normal_body(&[])); rules]), all_atoms(0))
+}
+
 /// A chain of rules in the order that founds one atom a round.
 // Atom i from atom i-1, the last rule first; atom 1 a fact or from the last atom.
 pub fn rule_chain(atoms: usize, founded: bool) -> Case {

@@ -8,4 +8,6 @@ pub mod plans;
 #[cfg(plan_judge)]
 pub mod proved;
 pub mod random;
+#[cfg(plan_judge)]
+pub mod stack;
 pub mod vectors;
