@@ -82,8 +82,7 @@ fn run_vectors(dir: &str) -> String {
 
 // What judging gives for the vectors of a directory, and for two long texts.
 fn run_plans(dir: &str) -> String {
-    let pairs = plans::paired(&cases_of(dir, "plans"));
-    plans::run(&pairs) + &plans::run(&plans::long())
+    plans::run(&plans::paired(&cases_of(dir, "plans")))
 }
 
 // Prints the answer.

@@ -1,7 +1,9 @@
-//! The reader's vectors and their container.
+//! The reader's vectors and their container; the vectors that are stored.
 use second::testing::container::{read, write, Case};
+use second::testing::plans;
 use second::testing::vectors::{candidates, run, texts};
 use std::collections::HashSet;
+use std::slice::from_ref;
 
 #[test]
 fn containers_round_trip() {
@@ -48,4 +50,48 @@ fn runs_both() {
     for number in ["3", "4", "5", "7"] {
         assert!(out.contains(&format!("\nrefused {number} ")));
     }
+}
+
+/// A case's name, and the bytes that are stored for it.
+type Part = (String, Vec<u8>);
+
+// Asks that a file of the crates holds exactly some bytes; a difference names the file and its first case that differs.
+fn stored(file: &str, made: Vec<u8>, parts: Vec<Part>) {
+    let path = format!("{}/../crates/{file}", env!("CARGO_MANIFEST_DIR"));
+    let bytes = std::fs::read(&path).unwrap_or_else(|e| panic!("{path}: {e}"));
+    if bytes == made {
+        return;
+    }
+    let mut rest = bytes.as_slice();
+    let differs = |(_, part): &Part| rest.strip_prefix(part.as_slice()).map(|after| rest = after).is_none();
+    let first = parts.into_iter().find(differs);
+    panic!(
+        "{file} differs first at {}",
+        first.map_or(String::from("what stands behind the last case"), |(name, _)| name)
+    );
+}
+
+// Each case as it is stored in a container.
+fn contained(cases: &[Case]) -> Vec<Part> {
+    cases.iter().map(|c| (c.name.clone(), write(from_ref(c)))).collect()
+}
+
+#[test]
+fn the_readers_files_are_as_stored() {
+    let (texts, candidates) = (texts(), candidates());
+    stored("read_vectors/data/texts", write(&texts), contained(&texts));
+    stored("read_vectors/data/candidates", write(&candidates), contained(&candidates));
+    let mut printed: Vec<Part> = texts.iter().map(|c| (c.name.clone(), run(from_ref(c), &[]).into())).collect();
+    printed.extend(candidates.iter().map(|c| (c.name.clone(), run(&[], from_ref(c)).into())));
+    stored("read_vectors/stdout", run(&texts, &candidates).into(), printed);
+}
+
+#[test]
+fn the_judges_files_are_as_stored() {
+    let pairs = plans::pairs();
+    let cases = plans::cases(&pairs);
+    stored("vectors/data/plans", write(&cases), contained(&cases));
+    let long = plans::long();
+    let printed = pairs.iter().chain(&long).map(|p| (p.name.clone(), plans::judged(p).into())).collect();
+    stored("vectors/stdout", plans::run(&pairs).into(), printed);
 }

@@ -602,9 +602,15 @@ pub fn paired(cases: &[Case]) -> Vec<Pair> {
     cases.chunks_exact(2).map(|c| pair(&c[0].name, &c[0].bytes, &c[1].bytes)).collect()
 }
 
-/// What judging gives for each pair.
+/// What judging gives for each pair, and for the long texts.
 pub fn run(pairs: &[Pair]) -> String {
-    pairs.iter().map(|p| format!("{}\n{}{}", p.name, report(&p.text, &p.cand), more(&p.text, &p.cand))).collect()
+    pairs.iter().chain(&long()).map(judged).collect()
+}
+
+/// What judging gives for a pair, below its name.
+pub fn judged(pair: &Pair) -> String {
+    let Pair { name, text, cand } = pair;
+    format!("{name}\n{}{}", report(text, cand), more(text, cand))
 }
 
 // What is asked besides the verdict: the timetable's bytes and times, or the faulty part.
