@@ -1,5 +1,5 @@
 -- What a packed number stands for, by cases. Assumes nothing.
-use Prim.Native.Nat.{ℕ, _+_, _*_, _%_, _≤_, _<_}
+use Prim.Native.Nat.{ℕ, _+_, _*_, _≤_, _<_, min}
 use mathlib.Core.Path.{_≡_, sym, ap}
 use mathlib.Core.Bool.{Bool, true, false}
 use mathlib.Core.List.{List, [], _∷_}
@@ -19,34 +19,34 @@ use Rattle.judge.specs.Judged.{acceptance, refusal, Judged}
 use Rattle.judge.specs.Shown.{inText, shown}
 use Rattle.judge.proofs.Parts.{shown-none}
 use Rattle.judge.proofs.Places.{places-bounded}
-use Rattle.judge_c.specs.Packed.{packedTime, packedPart, Answers}
+use Rattle.judge_c.specs.Packed.{half, largestHalf, packedTime, packedPart, Answers}
 
 -- an acceptance, with the timetable's length
 pub accepts : {i : Asked} {b a : Rooms} {n r : ℕ}
     → Judged i b (record { verdict = acceptance n; rooms = a })
-    → r ≡ 0 * 4294967296 + n → Answers i b a r
+    → r ≡ 0 * half + n → Answers i b a r
 accepts {n = n} j e = record { judgement = acceptance n; judged = j; value = omega arith }
 
 -- a refusal, with its number and place
 pub refuses : {i : Asked} {b a : Rooms} {k p r : ℕ}
     → Judged i b (record { verdict = refusal k p; rooms = a })
-    → r ≡ k * 4294967296 + p → Answers i b a r
+    → r ≡ k * half + p → Answers i b a r
 refuses {k = k} {p = p} j e = record { judgement = refusal k p; judged = j; value = e }
 
 -- a timetable's length fits the lower half
-pub length-fits : (i : Asked) {b a : Rooms} {n : ℕ} → Judged i b (record { verdict = acceptance n; rooms = a }) → n < 4294967296
+pub length-fits : (i : Asked) {b a : Rooms} {n : ℕ} → Judged i b (record { verdict = acceptance n; rooms = a }) → n < half
 length-fits i {b} j = let h = places-bounded i b _ j in omega arith
 
 -- a place fits the lower half
-pub place-fits : (i : Asked) {b a : Rooms} {k p : ℕ} → Judged i b (record { verdict = refusal k p; rooms = a }) → p < 4294967296
+pub place-fits : (i : Asked) {b a : Rooms} {k p : ℕ} → Judged i b (record { verdict = refusal k p; rooms = a }) → p < half
 place-fits i {b} j = let h = places-bounded i b _ j in omega arith
 
 -- a time
-pub times : (a : Answer ℕ) (t r : ℕ) → got t ≡ a → r ≡ 0 * 4294967296 + t → r ≡ packedTime a
+pub times : (a : Answer ℕ) (t r : ℕ) → got t ≡ a → r ≡ 0 * half + t → r ≡ packedTime a
 times a t r g e = rw (← g) (omega arith)
 
 -- 20 or 21
-pub timeless : (a : Answer ℕ) (k p r : ℕ) → refused k p ≡ a → r ≡ k * 4294967296 + p → r ≡ packedTime a
+pub timeless : (a : Answer ℕ) (k p r : ℕ) → refused k p ≡ a → r ≡ k * half + p → r ≡ packedTime a
 timeless a k p r g e = rw (← g) e
 
 -- no record has the name: the place is the term asked for
@@ -73,8 +73,8 @@ pub no-part : (p n : ℕ) → n ≡ 0 → 0 ≡ packedPart p n
 no-part p n e = rw (eq-eqb n 0 e)
 
 -- a part that is not empty
-pub some-part : (p n r : ℕ) → (n ≡ 0 → ⊥) → r ≡ p * 4294967296 + n % 4294967296 → r ≡ packedPart p n
-some-part p n r any e = rw (ne-eqb n 0 any) e
+pub some-part : (p n m r : ℕ) → (n ≡ 0 → ⊥) → m ≡ min n largestHalf → r ≡ p * half + m → r ≡ packedPart p n
+some-part p n m r any f e = rw (ne-eqb n 0 any, ← f) e
 
 -- a number that no kind has shows nothing
 module _ (n : ℕ) (none : (k : Kind) → number k ≡ n → ⊥) where

@@ -1,18 +1,24 @@
 // The judge for C and Rust callers: numbers and slices only, each answer packed into one 64-bit number.
 ghost use mathlib.Core.Path.{_≡_};
-ghost use Prim.Native.Nat.{_+_, _*_, _<_};
+ghost use Prim.Native.Nat.{_+_, _*_, _<_, min};
 ghost use lib.ListN.{length};
 ghost use Rattle.faults.specs.Values.{number};
 ghost use Rattle.timetable.specs.Times.{timeOf};
 ghost use Rattle.judge.specs.Plan.{asked};
 ghost use Rattle.judge.specs.Shown.{shown};
 ghost use Rattle.judge.specs.Values.{rooms};
-ghost use Rattle.judge_c.specs.Packed.{packedTime, packedPart, Answers, Found};
+ghost use Rattle.judge_c.specs.Packed.{half, largestHalf, packedTime, packedPart, Answers, Found};
 use faults::Kind;
 use faults::Refusal;
 use faults::TermNo;
 use judge::Verdict;
 use timetable::Time;
+
+// A half holds the numbers below this.
+const HALF: u64 = 4294967296;
+
+// The largest of them.
+const LARGEST_HALF: u32 = 4294967295;
 
 // What a number names: a kind of refusal, or none.
 enum Named {
@@ -22,19 +28,29 @@ enum Named {
 
 // One number above, the other below.
 fn pack(above: u32, below: u32) -> u64
-    ensures { λ r. ⌜ r ≡ above * 4294967296 + below ⌝ }
+    ensures { λ r. ⌜ r ≡ above * half + below ⌝ }
 {
-    above as u64 * 4294967296 + below as u64
+    above as u64 * HALF + below as u64
 }
 
 // A refusal's number above, its place below.
 fn pack_refusal(refusal: Refusal) -> u64
-    requires { ⌜ (refusal .place) < 4294967296 ⌝ }
-    ensures { λ r. ⌜ r ≡ number (refusal .kind) * 4294967296 + (refusal .place) ⌝ }
+    requires { ⌜ (refusal .place) < half ⌝ }
+    ensures { λ r. ⌜ r ≡ number (refusal .kind) * half + (refusal .place) ⌝ }
 {
     let kind = refusal.kind;
     let place = refusal.place as u32;
     pack(kind.number(), place)
+}
+
+// A length as a half: the largest where it is longer.
+fn half_of(length: usize) -> u32
+    ensures { λ r. ⌜ r ≡ min length largestHalf ⌝ }
+{
+    if length > LARGEST_HALF as usize {
+        return LARGEST_HALF;
+    }
+    length as u32
 }
 
 // The kind that a number names.
@@ -96,7 +112,7 @@ pub extern "C" fn plan_time(table: &[u8], term: u32) -> u64
     }
 }
 
-// Where the faulty part starts above, its length modulo 2^32 below; 0 where nothing is shown.
+// Where the faulty part starts above, its length below, the largest half where it is longer; 0 where nothing is shown.
 #[no_mangle]
 pub extern "C" fn plan_shown<'a>(text: &'a [u8], cand: &'a [u8], number: u32, place: u32) -> u64
     ensures { λ r. ⌜ r ≡ packedPart place (length (shown number place (now (text .entry)) (now (cand .entry)))) ⌝ }
@@ -105,6 +121,6 @@ pub extern "C" fn plan_shown<'a>(text: &'a [u8], cand: &'a [u8], number: u32, pl
     if bytes == 0 {
         return 0;
     }
-    let n = (bytes % 4294967296) as u32;
+    let n = half_of(bytes);
     pack(place, n)
 }
