@@ -1,2 +1,3 @@
 -- General laws.
 pub mod Packing
+pub mod Halves

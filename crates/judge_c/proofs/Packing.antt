@@ -1,6 +1,6 @@
 -- What a packed number stands for, by cases. Assumes nothing.
 use Prim.Native.Nat.{ℕ, _+_, _*_, _≤_, _<_, min}
-use mathlib.Core.Path.{_≡_, sym, ap}
+use mathlib.Core.Path.{_≡_, refl, sym, ap}
 use mathlib.Core.Bool.{Bool, true, false}
 use mathlib.Core.List.{List, [], _∷_}
 use native.Mathlib.Omega.{arith}
@@ -11,27 +11,33 @@ use Rattle.basics.specs.Bools.{pick}
 use Rattle.faults.specs.Answer.{Answer, got, refused}
 use Rattle.faults.specs.Values.{number}
 use Rattle.faults.specs.declared.Kind.{Kind}
+use Rattle.faults.specs.declared.Refusal.{Refusal}
 use Rattle.faults.specs.declared.Kind.the-variants.{Grammar, Carried, Bounds, Terms, Candidate, Broken}
-use Rattle.timetable.specs.Table.{Record, isTable, contentOf as shownIn}
+use Rattle.timetable.specs.Table.{Record, timesFit, isTable, contentOf as shownIn}
 use Rattle.timetable.specs.Times.{timeAmong, timeOf}
+use Rattle.timetable.proofs.Bounds.{first-time, is-within}
+use Rattle.timetable.proofs.Reading.{passed}
 use Rattle.judge.specs.Plan.{Asked, Rooms}
 use Rattle.judge.specs.Judged.{acceptance, refusal, Judged}
+use Rattle.judge.specs.Values.{asVerdict}
+use Rattle.judge.specs.declared.Verdict.{Verdict}
+use Rattle.judge.specs.declared.Verdict.the-variants.{Accepted, Refused}
 use Rattle.judge.specs.Shown.{inText, shown}
 use Rattle.judge.proofs.Parts.{shown-none}
 use Rattle.judge.proofs.Places.{places-bounded}
 use Rattle.judge_c.specs.Packed.{half, largestHalf, packedTime, packedPart, Answers}
 
 -- an acceptance, with the timetable's length
-pub accepts : {i : Asked} {b a : Rooms} {n r : ℕ}
-    → Judged i b (record { verdict = acceptance n; rooms = a })
-    → r ≡ 0 * half + n → Answers i b a r
-accepts {n = n} j e = record { judgement = acceptance n; judged = j; value = omega arith }
+pub accepts : {i : Asked} {b a : Rooms} (v : Verdict) {n r : ℕ}
+    → Judged i b (record { verdict = asVerdict v; rooms = a })
+    → v ≡ Accepted n → r ≡ 0 * half + n → Answers i b a r
+accepts v {n} j g e = record { verdict = v; judged = j; value = rw g (omega arith) }
 
 -- a refusal, with its number and place
-pub refuses : {i : Asked} {b a : Rooms} {k p r : ℕ}
-    → Judged i b (record { verdict = refusal k p; rooms = a })
-    → r ≡ k * half + p → Answers i b a r
-refuses {k = k} {p = p} j e = record { judgement = refusal k p; judged = j; value = e }
+pub refuses : {i : Asked} {b a : Rooms} (v : Verdict) {f : Refusal} {r : ℕ}
+    → Judged i b (record { verdict = asVerdict v; rooms = a })
+    → v ≡ Refused f → r ≡ number (f .kind) * half + f .place → Answers i b a r
+refuses v j g e = record { verdict = v; judged = j; value = rw g e }
 
 -- a timetable's length fits the lower half
 pub length-fits : (i : Asked) {b a : Rooms} {n : ℕ} → Judged i b (record { verdict = acceptance n; rooms = a }) → n < half
@@ -49,24 +55,33 @@ times a t r g e = rw (← g) (omega arith)
 pub timeless : (a : Answer ℕ) (k p r : ℕ) → refused k p ≡ a → r ≡ k * half + p → r ≡ packedTime a
 timeless a k p r g e = rw (← g) e
 
--- no record has the name: the place is the term asked for
-none-among : (u k p : ℕ) (rs : List Record) → refused k p ≡ timeAmong u rs → p ≤ u
+-- a time fits the lower half; a refusal has a number, and its place is at most the term asked for
+abbrev pub TimeFits : (term : ℕ) → Answer ℕ → Type 0
+TimeFits u (got t) = t < half
+TimeFits u (refused k p) = (0 < k) × (p ≤ u)
+
+-- among records whose times are within their bound
+among-fits : (u : ℕ) (rs : List Record) → timesFit rs ≡ true → TimeFits u (timeAmong u rs)
 unfolding timeAmong
-none-among u k p [] e = let z : p ≡ u = (cc) in omega arith
-none-among u k p (r ∷ rs) e = go (eqb (r .name) u) (none-among u k p rs) e
+among-fits u [] h = (omega arith, omega arith)
+among-fits u (r ∷ rs) h = go (eqb (r .name) u) (among-fits u rs (first-time r rs h .others))
   where
-    go : (t : Bool) → (refused k p ≡ timeAmong u rs → p ≤ u) → refused k p ≡ pick t (got (r .time)) (timeAmong u rs) → p ≤ u
-    go true h e = let z : _≡_ {A = ℕ} 0 1 = (cc) in absurd (omega arith)
-    go false h e = h e
+    go : (t : Bool) → TimeFits u (timeAmong u rs) → TimeFits u (pick t (got (r .time)) (timeAmong u rs))
+    go true f = omega (arith, first-time r rs h .timely)
+    go false f = f
+
+-- of every slice
+pub time-fits : (s : List ℕ) (u : ℕ) → TimeFits u (timeOf s u)
+unfolding timeOf
+time-fits s u = go (isTable s) refl
+  where
+    go : (t : Bool) → isTable s ≡ t → TimeFits u (pick t (timeAmong u (shownIn s .records)) (refused 20 0))
+    go true e = among-fits u (shownIn s .records) (is-within (shownIn s) (passed s e .bounds) .times)
+    go false e = (omega arith, omega arith)
 
 -- the place of 20 is 0, that of 21 the term asked for
 pub time-place : (s : List ℕ) (u k p : ℕ) → refused k p ≡ timeOf s u → p ≤ u
-unfolding timeOf
-time-place s u k p = go (isTable s)
-  where
-    go : (t : Bool) → refused k p ≡ pick t (timeAmong u (shownIn s .records)) (refused 20 0) → p ≤ u
-    go true e = none-among u k p (shownIn s .records) e
-    go false e = let z : p ≡ 0 = (cc) in omega arith
+time-place s u k p e = let h : TimeFits u (refused k p) = rw (← e) at (time-fits s u) in h .1
 
 -- an empty part
 pub no-part : (p n : ℕ) → n ≡ 0 → 0 ≡ packedPart p n

@@ -35,7 +35,7 @@ same-length-2 : tie.Need-same-length-2
 same-length-2 c = search needs
 
 returns : tie.Need-returns
-returns c = accepts (rw (c .before .before .a .given .1) at (c .before .before .before .before .before .before .before .before .judge .ensures)) (c .pack .ensures)
+returns c = accepts _ (c .before .before .before .before .before .before .before .before .judge .ensures) (c .before .before .a .given .1) (c .pack .ensures)
 
 same-length-3 : tie.Need-same-length-3
 same-length-3 c = search needs
@@ -44,7 +44,7 @@ same-length-4 : tie.Need-same-length-4
 same-length-4 c = search needs
 
 returns-2 : tie.Need-returns-2
-returns-2 c = refuses (rw (c .before .before .a2 .given .1) at (c .before .before .before .before .before .before .before .before .judge .ensures)) (c .pack-refusal .ensures)
+returns-2 c = refuses _ (c .before .before .before .before .before .before .before .before .judge .ensures) (c .before .before .a2 .given .1) (c .pack-refusal .ensures)
 
 pub plan-judge-spec : {M : Type 1} → statement M
 plan-judge-spec =
