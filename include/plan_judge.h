@@ -1,10 +1,14 @@
 /* The plan judge for C: the exported functions of the proved crate judge_c (rt staticlib judge_c).
  *
  * Every function takes numbers and slices only and has no condition on what a slice holds. A slice is passed as a
- * pointer and then its length in elements. Its memory must be there for the length given, no room may overlap another
- * slice, and a pointer is never null: for an empty slice pass any address that is right for the element's type.
+ * pointer and then its length in elements. Its memory must be there for the length given, and a pointer is never null:
+ * for an empty slice pass any address that is right for the element's type. The two rooms must not overlap each other,
+ * nor the text or the candidate.
  *
  * Every answer is one 64-bit number of two halves: the upper 32 bits (above) and the lower 32 bits (below).
+ *
+ * Nothing is allocated. A judging needs stack: at most 128 KB for texts of at most 2,000 bytes, at most 512 KB for any.
+ * What is not proved is said in docs/CONTRACTS.md, 'What is not proved'.
  */
 #ifndef PLAN_JUDGE_H
 #define PLAN_JUDGE_H
@@ -27,18 +31,28 @@ extern "C" {
 /* Judges a candidate against a plan text.
  * Accepted: 0 above, the timetable's length in bytes below; the timetable stands in the first bytes of room.
  * Refused: the refusal's number (1 to 11) above, its place below; after 10 the place is the count of atoms, and the
- * list of the cycle's atoms stands in the first places of cycle. Nothing else in either room is changed. */
+ * list of the cycle's atoms stands in the first places of cycle. Nothing else in either room is changed.
+ *
+ * A timetable is numbers of 32 bits, each as four bytes, the lowest first. At which byte stands what:
+ *   0        n, the count of names
+ *   4        m, the count of atoms
+ *   8        16, where the names begin
+ *   12       16 + 8n, where the atoms begin
+ *   16       for each name its term number (0 to 1,023) and its time (0 to 1,023,000,000), term numbers ascending
+ *   16 + 8n  the atoms of the candidate (1 to 4,096), ascending; they end at the length, 16 + 8n + 4m */
 uint64_t plan_judge(const uint8_t *text, size_t text_length,
                     const uint8_t *cand, size_t cand_length,
                     uint8_t *room, size_t room_length,
                     uint32_t *cycle, size_t cycle_length);
 
-/* The time of a term number in a timetable.
+/* The time of a term number in a timetable. Pass exactly the length that plan_judge gave: with another, as that of the
+ * whole room, the slice is no timetable.
  * Found: 0 above, the time below. Else 20 above and 0 below (the slice is no timetable), or 21 above and the term
  * number below (it is not in the timetable). */
 uint64_t plan_time(const uint8_t *table, size_t table_length, uint32_t term);
 
-/* The faulty part for a refusal: its start above, its length in bytes, modulo 2^32, below; 0 if there is nothing to show.
+/* The faulty part for a refusal: its start above, its length in bytes below; 0 if there is nothing to show. A part that
+ * is longer than 2^32 - 1 gives 2^32 - 1.
  * For the numbers 3, 4, 5, 6 and 8 it is a part of text, for 7 a part of cand; for every other number, and for a place
  * beyond the end, there is nothing. */
 uint64_t plan_shown(const uint8_t *text, size_t text_length,
