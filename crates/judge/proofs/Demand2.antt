@@ -16,7 +16,7 @@ use Rattle.stable.proofs.Stability.{stable-answers}
 use Rattle.timetable.specs.Table.{tableOf}
 use Rattle.timetable.specs.Times.{timeOf}
 use Rattle.judge.specs.Plan.{Asked, Rooms, Ready, holds, readable, InForce}
-use Rattle.judge.specs.Judged.{acceptance, Result, refusing, accepting, cyclic, timed, unfounded, founded, Weighed, breaks, sound, Judges, unreadable, ready}
+use Rattle.judge.specs.Judged.{acceptance, Result, refusing, accepting, impossible, possible, unsupported, supported, Weighed, breaks, sound, Judges, unreadable, judgeable}
 use Rattle.judge.specs.Demand2.{StableModel, Timeable, NoneBroken, BrokenAt, NoneUnfounded, UnfoundedAt, Accepted, Timetable, ShowsCycle, Otherwise, Demand2}
 use Rattle.judge.proofs.Ascent.{of-member}
 use Rattle.judge.proofs.Judgements.{verdicts, numbers, places, lengths, not-accepted}
@@ -43,14 +43,14 @@ pub data Ending (q : Ready) (b : Rooms) (r : Result) : Type 0 where
 -- what is judged of a readable plan has weighed it
 pub weighed : {a : Answer Ready} {b : Rooms} {q : Ready} {r : Result} → a ≡ got q → Judges a b r → Weighed q b r
 weighed e (unreadable k p f g) = let z : _≡_ {A = ℕ} 0 1 = (cc) in absurd (omega arith)
-weighed {b = b} {q} {r} e (ready v f g) = let i : v ≡ q = (cc) in subst (λ (u : Ready). Weighed u b r) i g
+weighed {b = b} {q} {r} e (judgeable v f g) = let i : v ≡ q = (cc) in subst (λ (u : Ready). Weighed u b r) i g
 
 module _ (a : Asked) (b : Rooms) (q : Ready) (r : Result) (e : readable a b ≡ got q) where
   ended : Weighed q b r → Ending q b r
   ended (breaks p f g) = at-eight p f g
-  ended (sound f (unfounded c g h)) = at-nine f c g h
-  ended (sound f (founded g (cyclic cs n h))) = at-ten f g (record { list = cs; negative = n; is = h })
-  ended (sound f (founded g (timed u h ns i j))) =
+  ended (sound f (unsupported c g h)) = at-nine f c g h
+  ended (sound f (supported g (impossible cs n h))) = at-ten f g (record { list = cs; negative = n; is = h })
+  ended (sound f (supported g (possible u h ns i j))) =
       at-end f g (record { times = u; earliest = h; names = ns; all = i; is = j ∙ ap (accepting b) (table-got a b q e u h ns i) })
 
   -- a readable plan ends in one of the four ways

@@ -1,19 +1,19 @@
 -- Gathering the differences in force, in place: after i of them, the first n places hold those of the first i whose atom is marked, and from i on nothing has changed.
 use Prim.Native.Nat.{ℕ, suc, _+_, _≤_, _<_}
 use mathlib.Core.Path.{_≡_, refl, sym, ap, _∙_}
+use mathlib.Core.Bool.{true, false}
 use mathlib.Core.List.{List, [], _∷_, _++_, append-nil}
 use native.Mathlib.Omega.{arith}
 use native.Mathlib.Numerals.{add-one}
-use borrow.Author.Tests.{eq-eqb, ne-eqb}
 use lib.IntN.{ℤ, pos}
 use lib.ListN.{length, getD, set, length-set, take}
 use lib.Seq.{getD-set-same, getD-set-other, getD-take, length-take-le}
 use Rattle.faults.specs.Limits.{lastAtom}
-use Rattle.faults.specs.inner.Places.{atomPlaces}
+use Rattle.basics.specs.inner.Bitmaps.{isMarked}
 use Rattle.aspif.specs.inner.Words.{word}
 use Rattle.terms.specs.Terms.{Stated}
 use Rattle.terms.specs.inner.Tables.{tabulated, heldAt}
-use Rattle.terms.specs.inner.Values.{Roomy}
+use Rattle.terms.specs.inner.Values.{Within}
 use Rattle.terms.proofs.Turns.{tabulated-same}
 use Rattle.judge.specs.inner.Stages.{stated, inForce, Gathered, Filled, SmallStated, Labelled, Candidate}
 use Rattle.judge.proofs.Firsts.{length-tabulated, in-force-append, tabulated-all, all-force}
@@ -51,7 +51,7 @@ pub record Alike (atoms xs ys : List ℕ) (ks : List ℤ) (labels gxs gys : List
 -- before difference i, of m
 pub record Going (atoms xs ys : List ℕ) (ks : List ℤ) (m : ℕ) (x labels gxs gys : List ℕ) (gks : List ℤ) (n i : ℕ) : Type 0 where
   pub alike : Alike atoms xs ys ks labels gxs gys gks
-  pub roomy : Roomy labels gxs gys gks
+  pub roomy : Within m labels gxs gys gks
   pub within : i ≤ m
   pub so-far : Gathered i (inForce x (stated i atoms xs ys ks)) n labels gxs gys gks
   pub ahead : (j : ℕ) → i ≤ j → heldAt labels gxs gys gks j ≡ heldAt atoms xs ys ks j
@@ -67,35 +67,28 @@ module _ (atoms xs ys : List ℕ) (ks : List ℤ) (m : ℕ) (x labels gxs gys : 
     here : heldAt labels gxs gys gks i ≡ heldAt atoms xs ys ks i
     here = g .ahead i (omega arith)
 
-    -- and its atom is to 4,096
-    pub going-small : Filled m atoms xs ys ks → getD labels i 0 < atomPlaces
-    unfolding word
-    going-small f =
-        let e : word labels i ≡ word atoms i = ap (λ (s : Stated). s .atom) here in
-        omega (arith, e, tabulated-all SmallStated m (heldAt atoms xs ys ks) (f .small) i l .1)
-
     -- one more is passed
     passed : inForce x (stated (i + 1) atoms xs ys ks) ≡ inForce x (stated i atoms xs ys ks) ++ inForce x (heldAt labels gxs gys gks i ∷ [])
     unfolding tabulated
     passed = rw (add-one i, here, in-force-append x (stated i atoms xs ys ks) (heldAt atoms xs ys ks i ∷ []))
 
     -- difference i is not in force
-    pub going-pass : (getD x (getD labels i 0) 0 ≡ 1 → ⊥) → Going atoms xs ys ks m x labels gxs gys gks n (i + 1)
+    pub going-pass : isMarked x (getD labels i 0) ≡ false → Going atoms xs ys ks m x labels gxs gys gks n (i + 1)
     unfolding inForce word
     going-pass h =
         record {
           alike = g .alike;
           roomy = g .roomy;
           within = omega arith;
-          so-far = record { few = omega (arith, g .so-far .few); is = rw (passed, ne-eqb _ _ h, append-nil) (g .so-far .is) };
+          so-far = record { few = omega (arith, g .so-far .few); is = rw (passed, h, append-nil) (g .so-far .is) };
           ahead = λ j k. g .ahead j (omega arith);
         }
 
     -- difference i is in force
-    pub going-take : m ≤ atomPlaces → getD x (getD labels i 0) 0 ≡ 1 → (k : ℤ) → k ≡ getD gks i (pos 0)
+    pub going-take : isMarked x (getD labels i 0) ≡ true → (k : ℤ) → k ≡ getD gks i (pos 0)
         → Going atoms xs ys ks m x (set labels n (getD labels i 0)) (set gxs n (getD gxs i 0)) (set gys n (getD gys i 0)) (set gks n k) (n + 1) (i + 1)
     unfolding inForce tabulated word
-    going-take f h k e =
+    going-take h k e =
         let p = g .roomy in
         let few : n ≤ i = g .so-far .few in
         record {
@@ -106,20 +99,20 @@ module _ (atoms xs ys : List ℕ) (ks : List ℤ) (m : ℕ) (x labels gxs gys : 
             for-ks = simp length-set (g .alike .for-ks);
           };
           roomy = record {
-            for-atoms = simp length-set (p .for-atoms);
-            for-xs = simp length-set (p .for-xs);
-            for-ys = simp length-set (p .for-ys);
-            for-ks = simp length-set (p .for-ks);
+            in-atoms = simp length-set (p .in-atoms);
+            in-xs = simp length-set (p .in-xs);
+            in-ys = simp length-set (p .in-ys);
+            in-ks = simp length-set (p .in-ks);
           };
           within = omega arith;
           so-far = record {
             few = omega arith;
             is =
-                rw (passed, add-one n, eq-eqb _ _ h, ← g .so-far .is, ← e)
-                (one-more labels gxs gys gks n _ _ _ _ (omega (arith, p .for-atoms)) (omega (arith, p .for-xs)) (omega (arith, p .for-ys)) (omega (arith, p .for-ks)));
+                rw (passed, add-one n, h, ← g .so-far .is, ← e)
+                (one-more labels gxs gys gks n _ _ _ _ (omega (arith, p .in-atoms)) (omega (arith, p .in-xs)) (omega (arith, p .in-ys)) (omega (arith, p .in-ks)));
           };
           ahead = λ j w.
-              others labels gxs gys gks n _ _ _ _ (omega (arith, p .for-atoms)) (omega (arith, p .for-xs)) (omega (arith, p .for-ys)) (omega (arith, p .for-ks)) j (λ z. omega arith)
+              others labels gxs gys gks n _ _ _ _ (omega (arith, p .in-atoms)) (omega (arith, p .in-xs)) (omega (arith, p .in-ys)) (omega (arith, p .in-ks)) j (λ z. omega arith)
               ∙ g .ahead j (omega arith);
         }
 
@@ -141,14 +134,14 @@ module _ (m : ℕ) (atoms xs ys : List ℕ) (ks : List ℤ) (f : Filled m atoms 
       omega (arith, length-tabulated n (heldAt labels gxs gys gks), ap length (g .is), few-force x (cand .none) (stated m atoms xs ys ks) (f .differ) (f .small))
 
   -- the parts of the slices that were filled are what the times are found of
-  pub gathered-labelled : Roomy labels gxs gys gks → Labelled (take n labels) (take n gxs) (take n gys) (take n gks)
+  pub gathered-labelled : Within n labels gxs gys gks → Labelled (take n labels) (take n gxs) (take n gys) (take n gks)
   unfolding word
   gathered-labelled p =
       let few : n ≤ lastAtom = gathered-few in
-      let ll : length (take n labels) ≡ n = length-take-le n labels (omega (arith, p .for-atoms)) in
-      let lx : length (take n gxs) ≡ n = length-take-le n gxs (omega (arith, p .for-xs)) in
-      let ly : length (take n gys) ≡ n = length-take-le n gys (omega (arith, p .for-ys)) in
-      let lk : length (take n gks) ≡ n = length-take-le n gks (omega (arith, p .for-ks)) in
+      let ll : length (take n labels) ≡ n = length-take-le n labels (omega (arith, p .in-atoms)) in
+      let lx : length (take n gxs) ≡ n = length-take-le n gxs (omega (arith, p .in-xs)) in
+      let ly : length (take n gys) ≡ n = length-take-le n gys (omega (arith, p .in-ys)) in
+      let lk : length (take n gks) ≡ n = length-take-le n gks (omega (arith, p .in-ks)) in
       record {
         slices = record {
           few = omega arith;

@@ -67,6 +67,6 @@ pub earliest-writable : (labels xs ys : List ℕ) (ks : List ℤ) → Labelled l
     → length names ≡ termPlaces → length times ≡ termPlaces → Candidate x → tableRoom ≤ length room → Writable names times x room
 earliest-writable labels xs ys ks w names times x room e n t c r =
     record {
-      sized = record { names-long = n; times-long = t; atoms-long = c .places; room-long = r };
+      sized = record { names-long = omega arith; times-long = omega arith; atoms-long = c .places; room-long = r };
       timely = record { each = λ v m. never-late labels xs ys ks w (cell times) e v };
     }

@@ -24,7 +24,7 @@ use Rattle.terms.specs.Terms.{Stated, statedBy, known, faulty, more, difference
 use Rattle.stable.specs.Meaning.{Atoms, broken, brokenAt, firstBroken}
 use Rattle.timetable.proofs.RoundTrip.{longest}
 use Rattle.judge.specs.Plan.{Asked, Rooms, Ready, ready, lent, legible, pair, readable, InForce}
-use Rattle.judge.specs.Judged.{Each, NegativeCycle, cyclic, timed, unfounded, founded, breaks, sound, unreadable, ready as read-plan}
+use Rattle.judge.specs.Judged.{Each, NegativeCycle, impossible, possible, unsupported, supported, breaks, sound, unreadable, judgeable}
 use Rattle.judge.specs.Bounds.{Bounds}
 use Rattle.judge.proofs.Ascent.{of-member}
 use Rattle.judge.proofs.Readable.{read}
@@ -141,16 +141,16 @@ module _ (a : Asked) (b : Rooms) (q : Ready) (e : readable a b ≡ got q) where
 -- every number of a verdict is within its bound
 pub places-bounded : Bounds
 places-bounded a b r (unreadable k p e f) = rw f (readable-place a b k p e)
-places-bounded a b r (read-plan q e (breaks p f g)) =
+places-bounded a b r (judgeable q e (breaks p f g)) =
     let t = read a b q e in
     let l = broken-place (length (a .text)) _ (q .lines) p (statements-placed (a .text) (q .lines) (t .lines)) f in
     rw g (omega (arith, l, t .short))
-places-bounded a b r (read-plan q e (sound f (unfounded c g h))) =
+places-bounded a b r (judgeable q e (sound f (unsupported c g h))) =
     let s = atoms-small 0 (q .atoms) (candidate-ascending (a .cand) (q .atoms) (read a b q e .atoms)) in
     let l : c ≤ lastAtom = of-member (λ n. n ≤ lastAtom) (q .atoms) c s (g .unfounded .holds) in
     rw h (omega arith)
-places-bounded a b r (read-plan q e (sound f (founded g (cyclic cs h i)))) =
+places-bounded a b r (judgeable q e (sound f (supported g (impossible cs h i)))) =
     let l = cycle-short a b q e cs h in
     rw i (omega arith)
-places-bounded a b r (read-plan q e (sound f (founded g (timed u h ns i j)))) =
+places-bounded a b r (judgeable q e (sound f (supported g (possible u h ns i j)))) =
     rw (j, table-got a b q e u h ns i) (longest (content ns u (q .atoms)) (content-within a b q e u h ns i))

@@ -2,7 +2,6 @@
 use Prim.Native.Nat.{ℕ, _<_}
 use mathlib.Core.Path.{_≡_, refl}
 use mathlib.Core.List.{List}
-use native.Mathlib.Omega.{arith}
 use lib.IntN.{ℤ}
 use Rattle.aspif.specs.Statements.{Line}
 use Rattle.aspif.specs.inner.Words.{word}
@@ -11,9 +10,9 @@ use Rattle.terms.specs.Says.{Says}
 use Rattle.terms.specs.Terms.{Stated}
 use Rattle.terms.specs.inner.Tables.{heldAt}
 use Rattle.terms.proofs.Stating.{says-listed, listed-says, atoms-differ}
-use Rattle.terms.proofs.Bounds.{listed-small, listed-few}
+use Rattle.terms.proofs.Bounds.{listed-small}
 use Rattle.judge.specs.inner.Stages.{stated, Stating, Filled}
-use Rattle.judge.proofs.Firsts.{length-tabulated, Place, some-place, place-some}
+use Rattle.judge.proofs.Firsts.{Place, some-place, place-some}
 
 module _ (ls : List Line) (m : ℕ) (atoms xs ys : List ℕ) (ks : List ℤ) (h : Stating ls m atoms xs ys ks) where
   -- the atom at a place says the difference there
@@ -30,7 +29,6 @@ module _ (ls : List Line) (m : ℕ) (atoms xs ys : List ℕ) (ks : List ℤ) (h 
   pub stating-filled : Filled m atoms xs ys ks
   stating-filled =
       record {
-        few = omega (arith, length-tabulated m (heldAt atoms xs ys ks), listed-few ls (stated m atoms xs ys ks) (h .stated) (h .small));
         roomy = h .roomy;
         small = listed-small ls (stated m atoms xs ys ks) (h .stated) (h .small);
         differ = atoms-differ ls (stated m atoms xs ys ks) (h .stated);

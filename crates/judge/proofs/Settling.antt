@@ -20,7 +20,7 @@ use Rattle.judge.specs.Values.{rooms, result}
 use Rattle.terms.specs.inner.Marks.{MarksThose}
 use Rattle.terms.proofs.Naming.{names-are}
 use Rattle.judge.proofs.Said.{stating-filled}
-use Rattle.judge.specs.inner.Stages.{stated, Stating, Candidate, readyAt, inForce, Filled, Gathered, Settled, shown, written}
+use Rattle.judge.specs.inner.Stages.{stated, Stating, Candidate, readyAt, inForce, Filled, Gathered, Settled, cycleShown, tableWritten}
 use Rattle.judge.specs.declared.Verdict.{Verdict}
 use Rattle.judge.specs.declared.Verdict.the-variants.{Refused}
 use Rattle.judge.proofs.Bitmaps.{marked-atoms}
@@ -38,27 +38,27 @@ module _ (m : ℕ) (c : ℕ → Diff) (labels t cycle cycle′ : List ℕ) where
     pub kept : cycle′ ≡ cycle
 
   -- times were found
-  pub times-of : (o : Outcome) → Decided o m c labels t cycle cycle′ → o ≡ outcome.Times → Quiet
+  pub times-of : (o : Outcome) → Decided o m c labels labels t cycle cycle′ → o ≡ outcome.Times → Quiet
   times-of o (Decided.timed e q k) f = record { earliest = q; kept = k }
   times-of o (Decided.cyclic n e s) f = let z : _≡_ {A = ℕ} 0 1 = cc (e, f) in absurd (omega arith)
 
   -- a cycle was found
-  pub cycle-of : (o : Outcome) (k : ℕ) → Decided o m c labels t cycle cycle′ → o ≡ outcome.Cycle k → Shown m c labels cycle cycle′ k
+  pub cycle-of : (o : Outcome) (k : ℕ) → Decided o m c labels labels t cycle cycle′ → o ≡ outcome.Cycle k → Shown m c labels labels cycle cycle′ k
   cycle-of o k (Decided.timed e q g) f = let z : _≡_ {A = ℕ} 0 1 = cc (e, f) in absurd (omega arith)
   cycle-of o k (Decided.cyclic n e s) f = let g : n ≡ k = cc (e, f) in rw g at s
 
-module _ (m : ℕ) (c : ℕ → Diff) (labels names x room cycle t cycle′ : List ℕ) (o : Outcome) (d : Decided o m c labels t cycle cycle′) where
+module _ (m : ℕ) (c : ℕ → Diff) (labels names x room cycle t cycle′ : List ℕ) (o : Outcome) (d : Decided o m c labels labels t cycle cycle′) where
   -- the earliest times, and what was written of them
   pub settled-times : o ≡ outcome.Times → (v : Verdict) (room′ : List ℕ)
       → ((cs : List ℕ) → result v room′ cs ≡ accepting (rooms room cs) (table (markedFrom 0 names) (timeAt t) (markedFrom 1 x)))
       → Settled m c labels names x (rooms room cycle) (result v room′ cycle′)
   settled-times e v room′ w =
       let q = times-of m c labels t cycle cycle′ o d e in
-      written (cell t) (q .earliest) (ap (λ (cs : List ℕ). result v room′ cs) (q .kept) ∙ w cycle)
+      tableWritten (cell t) (q .earliest) (ap (λ (cs : List ℕ). result v room′ cs) (q .kept) ∙ w cycle)
 
   -- the cycle of k differences
   pub settled-cycle : (k : ℕ) → o ≡ outcome.Cycle k → Settled m c labels names x (rooms room cycle) (result (Refused (record { kind = kind.Cycle; place = k })) room cycle′)
-  settled-cycle k e = shown k cycle′ (cycle-of m c labels t cycle cycle′ o k d e) refl
+  settled-cycle k e = cycleShown k cycle′ (cycle-of m c labels t cycle cycle′ o k d e) refl
 
 -- ---- what it says of the plan
 
@@ -73,7 +73,7 @@ each-held q n f c h (i ∷ is) w = (h i (w .0), each-held q n f c h is (w .1))
 
 -- what is shown is a negative cycle of the plan
 shown-cycle : (q : Ready) (n : ℕ) (c : ℕ → Diff) (labels room room′ : List ℕ) (k : ℕ) → ((i : ℕ) → i < n → Held q (cell labels i) (c i))
-    → (s : Shown n c labels room room′ k) → NegativeCycle q (map (cell labels) (s .numbers))
+    → (s : Shown n c labels labels room room′ k) → NegativeCycle q (map (cell labels) (s .numbers))
 shown-cycle q n c labels room room′ k h s =
     record {
       ds = map c (s .numbers);
@@ -84,7 +84,7 @@ shown-cycle q n c labels room room′ k h s =
     }
 
 -- the list stands in the cycle room
-shown-room : (b : Rooms) (n : ℕ) (c : ℕ → Diff) (labels cycle : List ℕ) (k : ℕ) (s : Shown n c labels (b .cycle) cycle k)
+shown-room : (b : Rooms) (n : ℕ) (c : ℕ → Diff) (labels cycle : List ℕ) (k : ℕ) (s : Shown n c labels labels (b .cycle) cycle k)
     → record { verdict = judged.refusal 10 k; rooms = record { room = b .room; cycle = cycle } } ≡ showing b (map (cell labels) (s .numbers))
 shown-room b n c labels cycle k s = rw (length-map (s .numbers) (cell labels), s .shown, s .count)
 
@@ -98,13 +98,13 @@ module _ (ls : List Line) (m : ℕ) (atoms xs ys : List ℕ) (ks : List ℤ) (h 
   -- 10, 11 or the timetable of the plan
   pub settled-timed : (k : ℕ) → k ≡ n → Settled k (diffAt (take n gxs) (take n gys) (take n gks)) (take n labels) names x b r → Timed (readyAt ls x) b r
   unfolding markedFrom
-  settled-timed k z (shown j cycle s q) =
-      judged.cyclic (map (cell (take n labels)) (s .numbers))
+  settled-timed k z (cycleShown j cycle s q) =
+      judged.impossible (map (cell (take n labels)) (s .numbers))
       (shown-cycle (readyAt ls x) k _ _ _ _ _ (λ i l. cut-held ls m atoms xs ys ks h x n labels gxs gys gks g i (omega arith)) s)
       (q ∙ shown-room b k _ _ _ _ s)
-  settled-timed k z (written u t q) =
-      judged.timed u
+  settled-timed k z (tableWritten u t q) =
+      judged.possible u
       (earliest-same (Among k _) (InForce (readyAt ls x)) u
       (λ d w. among-force ls m atoms xs ys ks h x n labels gxs gys gks g d (rw z at w))
       (λ d w. rw z (force-among ls m atoms xs ys ks h x n labels gxs gys gks g d w)) t)
-      (markedFrom 0 names) (names-are ls atoms xs ys ks m (h .stated) names (h .small) (omega (arith, filled .few, h .roomy .for-xs)) (omega (arith, filled .few, h .roomy .for-ys)) e) (rw (marked-atoms x (cand .none)) at q)
+      (markedFrom 0 names) (names-are ls atoms xs ys ks m (h .stated) names (h .small) (h .roomy .in-xs) (h .roomy .in-ys) e) (rw (marked-atoms x (cand .none)) at q)

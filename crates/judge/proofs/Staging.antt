@@ -1,36 +1,39 @@
 -- How the stages follow one another: what one stage found, in the words of the next. Assumes nothing.
-use Prim.Native.Nat.{ℕ, _≤_}
-use mathlib.Core.Path.{_≡_, refl, sym, _∙_, fun-ext}
+use Prim.Native.Nat.{ℕ, _+_, _≤_}
+use mathlib.Core.Path.{_≡_, refl, sym, ap, _∙_, fun-ext}
 use mathlib.Core.Bool.{false, _&&_, not}
 use mathlib.Core.List.{List, [], _∷_}
 use native.Mathlib.Omega.{arith}
 use borrow.Author.Tests.{ne-eqb, le-ltb}
 use lib.IntN.{ℤ}
-use lib.ListN.{length, take, replicate, length-replicate}
+use lib.ListN.{length, take}
+use lib.Seq.{length-take-le}
 use Rattle.faults.specs.Limits.{cycleRoom, longestText, tableRoom}
 use Rattle.faults.specs.inner.Places.{atomPlaces}
 use Rattle.faults.specs.Answer.{got, refused}
 use Rattle.basics.specs.Lists.{among}
-use Rattle.basics.specs.inner.Bitmaps.{isMarked}
-use Rattle.basics.proofs.Bitmaps.{marked-holds}
+use Rattle.basics.specs.inner.Bitmaps.{isMarked, markedFrom}
+use Rattle.basics.proofs.Bitmaps.{marked-holds, marked-front}
 use Rattle.aspif.specs.Statements.{Line}
 use Rattle.aspif.specs.Grammar.{statements}
 use Rattle.aspif.specs.Candidate.{candidate}
 use Rattle.aspif.specs.inner.Words.{linesOf}
 use Rattle.aspif.specs.inner.Kept.{Ahead}
-use Rattle.aspif.specs.inner.Bitmap.{atomsOf}
+use Rattle.aspif.specs.inner.Bitmap.{atomsOf, EndsAt}
 use Rattle.aspif.proofs.Kept.{in-range}
 use Rattle.aspif.proofs.Walking.{ahead-small}
 use Rattle.aspif.proofs.Candidates.{AscendingFrom, candidate-ascending}
 use Rattle.terms.specs.Says.{headed}
 use Rattle.terms.specs.Terms.{Stated, differences, external}
-use Rattle.terms.specs.inner.Values.{Roomy}
+use Rattle.terms.specs.inner.Values.{Within}
 use Rattle.terms.specs.inner.Marks.{MarksThose}
 use Rattle.terms.proofs.Naming.{externals-are}
-use Rattle.stable.specs.Meaning.{Atoms, Founding, FoundedBy, Broken, firstBroken}
-use Rattle.judge.specs.Plan.{Asked, Rooms, holds, lent, legible, pair, readable}
-use Rattle.judge.specs.inner.Stages.{stated, Stating, Candidate, Sized, readyAt}
-use Rattle.judge.proofs.Said.{stating-filled}
+use Rattle.stable.specs.Meaning.{Atoms, Founding, unfoundedAt, FoundedBy, Broken, unbroken, brokenAt, firstBroken}
+use Rattle.stable.specs.Meaning as meaning
+use Rattle.judge.specs.Plan.{Asked, Rooms, ready, holds, lent, legible, pair, readable}
+use Rattle.judge.specs.Judged.{refusing, unreadable, judgeable, breaks, sound, unsupported, supported, Judged}
+use Rattle.judge.specs.inner.Stages.{stated, Stating, Candidate, Sized, readyAt, Upheld}
+use Rattle.judge.proofs.Bitmaps.{front-unmarked}
 
 -- the bitmap of the candidate is its set
 holds-is : (ls : List Line) (x : List ℕ) → _≡_ {A = Atoms} (isMarked x) (holds (readyAt ls x))
@@ -45,8 +48,7 @@ pub founded-as : {ls : List Line} {m : ℕ} {atoms xs ys : List ℕ} {ks : List 
     → Stating ls m atoms xs ys ks → Candidate x → MarksThose atomPlaces ext (λ a. among a (take m atoms) && not (headed ls a))
     → FoundedBy v (isMarked x) (isMarked ext) ls → FoundedBy v (holds (readyAt ls x)) (external ls) ls
 founded-as {ls} {m} {atoms} {xs} {ys} {ks} {x} {ext} v p w b h =
-    let f = stating-filled ls m atoms xs ys ks p in
-    let e = externals-are ls atoms xs ys ks m (p .stated) ext (p .small) (omega (arith, f .few, p .roomy .for-atoms)) b in
+    let e = externals-are ls atoms xs ys ks m (p .stated) ext (p .small) (p .roomy .in-atoms) b in
     let o : _≡_ {A = Atoms} (isMarked ext) (external ls) = fun-ext e in
     rw (← holds-is ls x, ← o) h
 
@@ -84,25 +86,66 @@ pub pair-refused : (ls : List Line) (cand : List ℕ) (k p : ℕ) → refused k 
 unfolding pair
 pair-refused ls cand k p e = rw (← e)
 
--- no candidate marks atom 0, and its bitmap has 4,097 places
-pub marked : (cand x : List ℕ) → length x ≡ length (replicate {A = ℕ} atomPlaces 0) → got (atomsOf x) ≡ candidate cand → Candidate x
-marked cand x l e = record { places = l ∙ length-replicate {A = ℕ} atomPlaces 0; none = zero-unmarked cand x (sym e) }
+-- no candidate marks atom 0
+pub marked : {cand x : List ℕ} {last : ℕ} → EndsAt last x → got (atomsOf x) ≡ candidate cand → Candidate x
+marked {cand} {x} h e = record { places = omega (arith, h .places); none = zero-unmarked cand x (sym e) }
 
--- of a text that has passed: its lines stand on the tape, the slices have the differences that they state, and the candidate decides
-pub record Passed (a : Asked) (b : Rooms) (tape : List ℕ) (n : ℕ) (atoms xs ys : List ℕ) (ks : List ℤ) (m : ℕ) : Type 0 where
+-- the front of a bitmap, to the last atom, has the same atoms
+pub front-ready : {ls : List Line} {x : List ℕ} {last : ℕ} → EndsAt last x → readyAt ls (take (last + 1) x) ≡ readyAt ls x
+unfolding markedFrom
+front-ready {ls} {x} {last} h = ap (ready ls) (marked-front 0 (last + 1) x (h .none))
+
+-- and is a candidate's
+pub front-candidate : {x : List ℕ} {last : ℕ} → EndsAt last x → Candidate x → Candidate (take (last + 1) x)
+front-candidate {x} {last} h c = record { places = omega (arith, length-take-le (last + 1) x (omega (arith, h .places, h .small)), h .small); none = front-unmarked (last + 1) x 0 (c .none) }
+
+-- of a text that has passed: its lines stand on the tape, the slices have the differences that they state, and the candidate decides in any rooms
+pub record Passed (a : Asked) (tape : List ℕ) (n : ℕ) (atoms xs ys : List ℕ) (ks : List ℤ) (m : ℕ) : Type 0 where
   pub taped : Ahead tape 0 n
   pub short : length tape ≤ longestText
   pub stating : Stating (linesOf tape n) m atoms xs ys ks
-  pub decides : readable a b ≡ pair (linesOf tape n) (a .cand)
+  pub decides : (b : Rooms) → Sized (b .room) (b .cycle) → readable a b ≡ pair (linesOf tape n) (a .cand)
 
-pub passed : (a : Asked) (b : Rooms) {long : ℕ} {tape : List ℕ} {n : ℕ} {atoms xs ys : List ℕ} {ks : List ℤ} {m : ℕ}
-    → (length (a .text) ≤ long) × (long ≤ longestText) × Sized (b .room) (b .cycle) → length tape ≡ long
-    → got (linesOf tape n) ≡ statements (a .text) → Ahead tape 0 n → got (stated m atoms xs ys ks) ≡ differences (linesOf tape n) → Roomy atoms xs ys ks
-    → Passed a b tape n atoms xs ys ks m
-passed a b {tape = tape} {n} pre k e w d r =
+pub passed : (a : Asked) {long : ℕ} {tape : List ℕ} {n : ℕ} {atoms xs ys : List ℕ} {ks : List ℤ} {m : ℕ}
+    → (length (a .text) ≤ long) × (long ≤ longestText) → length tape ≡ long
+    → got (linesOf tape n) ≡ statements (a .text) → Ahead tape 0 n → got (stated m atoms xs ys ks) ≡ differences (linesOf tape n) → Within m atoms xs ys ks
+    → Passed a tape n atoms xs ys ks m
+passed a {tape = tape} {n} pre k e w d r =
     record {
       taped = w;
       short = omega (arith, pre .1);
       stating = record { small = in-range (linesOf tape n) (ahead-small tape 0 n w); stated = sym d; roomy = r };
-      decides = pair-decides a b (pre .2) (omega (arith, pre .0, pre .1)) (linesOf tape n) (sym e) _ (sym d);
+      decides = λ b z. pair-decides a b z (omega (arith, pre .0, pre .1)) (linesOf tape n) (sym e) _ (sym d);
     }
+
+-- ---- what was found
+
+module _ {a : Asked} {tape : List ℕ} {n : ℕ} {atoms xs ys : List ℕ} {ks : List ℤ} {m : ℕ} (p : Passed a tape n atoms xs ys ks m) where
+  -- 7 refuses what was asked
+  pub mispaired : {k q : ℕ} → refused k q ≡ candidate (a .cand) → (b : Rooms) → Sized (b .room) (b .cycle) → Judged a b (refusing b k q)
+  mispaired e b z = unreadable _ _ (p .decides b z ∙ pair-refused _ _ _ _ e) refl
+
+  module _ {x : List ℕ} (e : got (atomsOf x) ≡ candidate (a .cand)) where
+    ready-for : (b : Rooms) → Sized (b .room) (b .cycle) → readable a b ≡ got (readyAt (linesOf tape n) x)
+    ready-for b z = p .decides b z ∙ pair-ready _ _ _ e
+
+    -- 8 does
+    pub breaking : {q : ℕ} → brokenAt q ≡ firstBroken (isMarked x) (linesOf tape n) → (b : Rooms) → Sized (b .room) (b .cycle) → Judged a b (refusing b 8 q)
+    breaking w b z = judgeable _ (ready-for b z) (breaks _ (broken-as _ _ w) refl)
+
+    module _ {ext : List ℕ} {last : ℕ} (w : unbroken ≡ firstBroken (isMarked x) (linesOf tape n)) (h : EndsAt last x)
+        (o : MarksThose atomPlaces ext (λ b. among b (take m atoms) && not (headed (linesOf tape n) b))) where
+      -- 9 does
+      pub unfounding : {q : ℕ} → FoundedBy (unfoundedAt q) (isMarked x) (isMarked ext) (linesOf tape n) → (b : Rooms) → Sized (b .room) (b .cycle) → Judged a b (refusing b 9 q)
+      unfounding {q} u b z = judgeable _ (ready-for b z) (sound (broken-as _ _ w) (unsupported q (founded-as (unfoundedAt q) (p .stating) (marked h e) o u) refl))
+
+      -- the times decide
+      pub upheld : FoundedBy meaning.founded (isMarked x) (isMarked ext) (linesOf tape n) → Upheld a m last x atoms xs ys ks
+      upheld u =
+          record {
+            lines = linesOf tape n;
+            stating = p .stating;
+            candidate = marked h e;
+            ends = h;
+            decides = λ b r z t. judgeable _ (ready-for b z) (sound (broken-as _ _ w) (supported (founded-as meaning.founded (p .stating) (marked h e) o u) t));
+          }

@@ -21,7 +21,7 @@ use Rattle.timetable.specs.Times.{asTime, timeOf}
 use Rattle.timetable.specs.declared.Time.{Time}
 use Rattle.timetable.proofs.Answers.{one-time}
 use Rattle.judge.specs.Plan.{Asked, Rooms, Ready, holds, readable, InForce}
-use Rattle.judge.specs.Judged.{Judgement, acceptance, refusal, Result, refusing, showing, accepting, Each, NegativeCycle, table, Timed, cyclic, timed, Supported, unfounded, founded, Weighed, breaks, sound, Judges, unreadable, ready, Judged}
+use Rattle.judge.specs.Judged.{Judgement, acceptance, refusal, Result, refusing, showing, accepting, Each, NegativeCycle, table, Timed, impossible, possible, Supported, unsupported, supported, Weighed, breaks, sound, Judges, unreadable, judgeable, Judged}
 use Rattle.judge.specs.Shown.{IsShown}
 use Rattle.judge.specs.Values.{asVerdict, result}
 use Rattle.judge.specs.declared.Verdict.{Verdict}
@@ -67,20 +67,20 @@ smallest-unique q a c f g = go (decLt a c) (decLt c a)
 
 module _ (q : Ready) (b : Rooms) (r r′ : Result) where
   timed-unique : Timed q b r → Timed q b r′ → (r ≡ r′) ⊎ BothTen q b r r′
-  timed-unique (cyclic cs n e) (cyclic ds m f) = inr (record { cs = cs; cs′ = ds; one = n; other = m; first = e; second = f })
-  timed-unique (cyclic cs n e) (timed v h ns i f) = absurd (no-times q cs n (whole v) (h .keeps))
-  timed-unique (timed u g ns i e) (cyclic ds m f) = absurd (no-times q ds m (whole u) (g .keeps))
-  timed-unique (timed u g ns i e) (timed v h ms j f) =
+  timed-unique (impossible cs n e) (impossible ds m f) = inr (record { cs = cs; cs′ = ds; one = n; other = m; first = e; second = f })
+  timed-unique (impossible cs n e) (possible v h ns i f) = absurd (no-times q cs n (whole v) (h .keeps))
+  timed-unique (possible u g ns i e) (impossible ds m f) = absurd (no-times q ds m (whole u) (g .keeps))
+  timed-unique (possible u g ns i e) (possible v h ms j f) =
       inl (e
       ∙ ap (λ (w : ℕ → ℕ). accepting b (table ns w (q .atoms))) (fun-ext (earliest-unique (InForce q) u v g h))
       ∙ ap (λ (ks : List ℕ). accepting b (table ks v (q .atoms))) (names-unique (q .lines) ns ms i j)
       ∙ sym f)
 
   supported-unique : Supported q b r → Supported q b r′ → (r ≡ r′) ⊎ BothTen q b r r′
-  supported-unique (unfounded a f e) (unfounded c g h) = inl (e ∙ ap (refusing b 9) (smallest-unique q a c f g) ∙ sym h)
-  supported-unique (unfounded a f e) (founded g h) = absurd (g a (f .unfounded))
-  supported-unique (founded f e) (unfounded c g h) = absurd (f c (g .unfounded))
-  supported-unique (founded f e) (founded g h) = timed-unique e h
+  supported-unique (unsupported a f e) (unsupported c g h) = inl (e ∙ ap (refusing b 9) (smallest-unique q a c f g) ∙ sym h)
+  supported-unique (unsupported a f e) (supported g h) = absurd (g a (f .unfounded))
+  supported-unique (supported f e) (unsupported c g h) = absurd (f c (g .unfounded))
+  supported-unique (supported f e) (supported g h) = timed-unique e h
 
   weighed-unique : Weighed q b r → Weighed q b r′ → (r ≡ r′) ⊎ BothTen q b r r′
   weighed-unique (breaks p e f) (breaks m g h) = let j : p ≡ m = (cc) in inl (f ∙ ap (refusing b 8) j ∙ sym h)
@@ -93,9 +93,9 @@ judges-unique a b r r′ (unreadable k p e f) (unreadable l m g h) =
     let i : k ≡ l = (cc) in
     let j : p ≡ m = (cc) in
     inl (f ∙ ap (λ (n : ℕ). refusing b n p) i ∙ ap (refusing b l) j ∙ sym h)
-judges-unique a b r r′ (unreadable k p e f) (ready v g h) = let z : _≡_ {A = ℕ} 0 1 = (cc) in absurd (omega arith)
-judges-unique a b r r′ (ready u e f) (unreadable l m g h) = let z : _≡_ {A = ℕ} 0 1 = (cc) in absurd (omega arith)
-judges-unique a b r r′ (ready u e f) (ready v g h) =
+judges-unique a b r r′ (unreadable k p e f) (judgeable v g h) = let z : _≡_ {A = ℕ} 0 1 = (cc) in absurd (omega arith)
+judges-unique a b r r′ (judgeable u e f) (unreadable l m g h) = let z : _≡_ {A = ℕ} 0 1 = (cc) in absurd (omega arith)
+judges-unique a b r r′ (judgeable u e f) (judgeable v g h) =
     let i : v ≡ u = (cc) in
     go (weighed-unique u b r r′ f (subst (λ (q : Ready). Weighed q b r′) i h))
   where

@@ -82,14 +82,14 @@ table ns u cs = mapped (λ (v : Unit {0}). tableOf (record { records = recordsOf
 
 -- 10; or the earliest times, which are 11 or the timetable
 pub data Timed (q : Ready) (b : Rooms) (r : Result) : Type 0 where
-  cyclic : (cs : List ℕ) → NegativeCycle q cs → r ≡ showing b cs → Timed q b r
-  timed : (u : ℕ → ℕ) → Earliest (InForce q) u → (ns : List ℕ) → Names (q .lines) ns
+  impossible : (cs : List ℕ) → NegativeCycle q cs → r ≡ showing b cs → Timed q b r
+  possible : (u : ℕ → ℕ) → Earliest (InForce q) u → (ns : List ℕ) → Names (q .lines) ns
       → r ≡ accepting b (table ns u (q .atoms)) → Timed q b r
 
 -- 9; or all is founded
 pub data Supported (q : Ready) (b : Rooms) (r : Result) : Type 0 where
-  unfounded : (a : ℕ) → SmallestUnfounded (holds q) (external (q .lines)) (q .lines) a → r ≡ refusing b 9 a → Supported q b r
-  founded : Founded (holds q) (external (q .lines)) (q .lines) → Timed q b r → Supported q b r
+  unsupported : (a : ℕ) → SmallestUnfounded (holds q) (external (q .lines)) (q .lines) a → r ≡ refusing b 9 a → Supported q b r
+  supported : Founded (holds q) (external (q .lines)) (q .lines) → Timed q b r → Supported q b r
 
 -- 8; or no rule is broken
 pub data Weighed (q : Ready) (b : Rooms) (r : Result) : Type 0 where
@@ -99,7 +99,7 @@ pub data Weighed (q : Ready) (b : Rooms) (r : Result) : Type 0 where
 -- 1 to 7; or a readable plan
 pub data Judges (a : Answer Ready) (b : Rooms) (r : Result) : Type 0 where
   unreadable : (k p : ℕ) → a ≡ refused k p → r ≡ refusing b k p → Judges a b r
-  ready : (q : Ready) → a ≡ got q → Weighed q b r → Judges a b r
+  judgeable : (q : Ready) → a ≡ got q → Weighed q b r → Judges a b r
 
 -- what the judge does with what was asked and both rooms
 abbrev pub Judged : Asked → Rooms → Result → Type 0

@@ -3,14 +3,18 @@ ghost use mathlib.Core.Path.{_≡_};
 ghost use Prim.Native.Nat.{_≤_};
 ghost use lib.ListN.{length};
 ghost use Rattle.faults.specs.Limits.{longestText};
+ghost use Rattle.faults.specs.inner.Places.{shortText};
+ghost use Rattle.aspif.specs.inner.Bitmap.{Blank};
+ghost use Rattle.terms.specs.inner.Values.{Roomy};
 ghost use Rattle.timetable.specs.Times.{asTime, timeOf};
 ghost use Rattle.judge.specs.Plan.{asked};
 ghost use Rattle.judge.specs.Judged.{Judged};
 ghost use Rattle.judge.specs.Values.{rooms, result};
-ghost use Rattle.judge.specs.inner.Stages.{Sized};
+ghost use Rattle.judge.specs.inner.Stages.{Sized, BeforeTimes};
 use aspif::candidate::Marked;
 use aspif::candidate::candidate;
 use faults::ATOM_PLACES;
+use faults::AtomNo;
 use faults::CYCLE_ROOM;
 use faults::Kind;
 use faults::LONGEST_TEXT;
@@ -28,6 +32,12 @@ use timetable::Time;
 pub mod show;
 mod timed;
 
+// The most differences that stand on the tape of a short text: a line that states one takes nine words.
+const SHORT_DIFFERENCES: usize = 223;
+
+// The most that stand on the longest tape.
+const LONG_DIFFERENCES: usize = 6667;
+
 // The verdict: accepted, with the timetable's length; or refused, with its kind and place.
 pub enum Verdict {
     Accepted(usize),
@@ -41,45 +51,121 @@ fn refuse(kind: Kind, place: usize) -> Verdict
     Verdict::Refused(Refusal { kind, place })
 }
 
-// 3 to 11 or the timetable, of a text that fits the tape. Each refusal leaves in its turn.
-fn decided(
+// What a plan and its candidate come to before the times: refused; or stable, with the count of differences and the last atom.
+enum Untimed {
+    Stable(usize, AtomNo),
+    Refused(Refusal),
+}
+
+// The refusal by a kind at a place.
+fn refused(kind: Kind, place: usize) -> Untimed
+    ensures { λ r. ⌜ r ≡ Untimed.Refused (record { kind = kind; place = place }) ⌝ }
+{
+    Untimed::Refused(Refusal { kind, place })
+}
+
+// 3 to 9, of a text that fits the tape; or its differences in the first places of four slices, and the stable candidate in x.
+fn untimed(
     text: &[u8],
     cand: &[u8],
     tape: &mut [u32],
-    room: &mut [u8],
-    cycle: &mut [u32],
-) -> Verdict
-    requires { ⌜ (length (now text) ≤ length (now tape)) × (length (now tape) ≤ longestText) × Sized (now room) (now cycle) ⌝ }
-    ensures { λ r. ⌜ Judged (asked (now (text .entry)) (now (cand .entry))) (rooms (now (room .entry)) (now (cycle .entry))) (result r (now (room .exit)) (now (cycle .exit))) ⌝ }
+    atoms: &mut [u32],
+    xs: &mut [u32],
+    ys: &mut [u32],
+    ks: &mut [i32],
+    x: &mut [u8],
+) -> Untimed
+    requires { ⌜ (length (now text) ≤ length (now tape)) × (length (now tape) ≤ longestText) ⌝ }
+    requires { ⌜ Roomy (length (now tape)) (now atoms) (now xs) (now ys) (now ks) × Blank (now x) ⌝ }
+    ensures { λ r. ⌜ BeforeTimes r (asked (now (text .entry)) (now (cand .entry))) (now (x .exit)) (now (atoms .exit)) (now (xs .exit)) (now (ys .exit)) (now (ks .exit)) ⌝ }
 {
     let a = aspif::read(text, tape);
     let Step::Good(n) = a else {
-        return Verdict::Refused(a.refusal());
+        return Untimed::Refused(a.refusal());
     };
-    let mut atoms = [0u32; ATOM_PLACES];
-    let mut xs = [0u32; ATOM_PLACES];
-    let mut ys = [0u32; ATOM_PLACES];
-    let mut ks = [0i32; ATOM_PLACES];
-    let b = terms::collect(tape, n, &mut atoms, &mut xs, &mut ys, &mut ks);
+    let b = terms::collect(tape, n, atoms, xs, ys, ks);
     let Step::Good(m) = b else {
-        return Verdict::Refused(b.refusal());
+        return Untimed::Refused(b.refusal());
     };
-    let mut x = [0u8; ATOM_PLACES];
-    let marked = candidate(cand, &mut x);
-    let Marked::Done = marked else {
-        return Verdict::Refused(marked.refusal());
+    let marked = candidate(cand, x);
+    let Marked::Done(last) = marked else {
+        return Untimed::Refused(marked.refusal());
     };
-    let broken = stable::first_broken(tape, n, &x);
+    let broken = stable::first_broken(tape, n, x);
     if let Broken::At(p) = broken {
-        return refuse(Kind::Broken, p as usize);
+        return refused(Kind::Broken, p as usize);
     }
     let mut ext = [0u8; ATOM_PLACES];
-    externals(tape, n, &atoms, m, &mut ext);
-    let unfounded = stable::smallest_unfounded(tape, n, &ext, &x);
+    externals(tape, n, atoms, m, &mut ext);
+    let unfounded = stable::smallest_unfounded(tape, n, &ext, x, last);
     if let Unfounded::Atom(k) = unfounded {
-        return refuse(Kind::Unfounded, k.0 as usize);
+        return refused(Kind::Unfounded, k.0 as usize);
     }
-    timed(&mut atoms, &mut xs, &mut ys, &mut ks, m, &x, room, cycle)
+    Untimed::Stable(m, last)
+}
+
+// 3 to 11 or the timetable, of a short text: its tape and slices are short too.
+pub fn judge_short(text: &[u8], cand: &[u8], room: &mut [u8], cycle: &mut [u32]) -> Verdict
+    requires { ⌜ (length (now text) ≤ shortText) × Sized (now room) (now cycle) ⌝ }
+    ensures { λ r. ⌜ Judged (asked (now (text .entry)) (now (cand .entry))) (rooms (now (room .entry)) (now (cycle .entry))) (result r (now (room .exit)) (now (cycle .exit))) ⌝ }
+{
+    let mut tape = [0u32; SHORT_TEXT];
+    let mut atoms = [0u32; SHORT_DIFFERENCES];
+    let mut xs = [0u32; SHORT_DIFFERENCES];
+    let mut ys = [0u32; SHORT_DIFFERENCES];
+    let mut ks = [0i32; SHORT_DIFFERENCES];
+    let mut x = [0u8; ATOM_PLACES];
+    let u = untimed(
+        text, cand, &mut tape, &mut atoms, &mut xs, &mut ys, &mut ks, &mut x,
+    );
+    match u {
+        Untimed::Refused(r) => Verdict::Refused(r),
+        Untimed::Stable(m, last) => {
+            let top = last.0 as usize + 1;
+            timed(
+                &mut atoms,
+                &mut xs,
+                &mut ys,
+                &mut ks,
+                m,
+                &x[..top],
+                room,
+                cycle,
+            )
+        }
+    }
+}
+
+// 3 to 11 or the timetable, of any text that is not too long.
+pub fn judge_long(text: &[u8], cand: &[u8], room: &mut [u8], cycle: &mut [u32]) -> Verdict
+    requires { ⌜ (length (now text) ≤ longestText) × Sized (now room) (now cycle) ⌝ }
+    ensures { λ r. ⌜ Judged (asked (now (text .entry)) (now (cand .entry))) (rooms (now (room .entry)) (now (cycle .entry))) (result r (now (room .exit)) (now (cycle .exit))) ⌝ }
+{
+    let mut tape = [0u32; LONGEST_TEXT];
+    let mut atoms = [0u32; LONG_DIFFERENCES];
+    let mut xs = [0u32; LONG_DIFFERENCES];
+    let mut ys = [0u32; LONG_DIFFERENCES];
+    let mut ks = [0i32; LONG_DIFFERENCES];
+    let mut x = [0u8; ATOM_PLACES];
+    let u = untimed(
+        text, cand, &mut tape, &mut atoms, &mut xs, &mut ys, &mut ks, &mut x,
+    );
+    match u {
+        Untimed::Refused(r) => Verdict::Refused(r),
+        Untimed::Stable(m, last) => {
+            let top = last.0 as usize + 1;
+            timed(
+                &mut atoms,
+                &mut xs,
+                &mut ys,
+                &mut ks,
+                m,
+                &x[..top],
+                room,
+                cycle,
+            )
+        }
+    }
 }
 
 // The verdict on a plan text and a candidate; the timetable's bytes in room, or a negative cycle's atoms in cycle.
@@ -95,13 +181,11 @@ pub fn judge(text: &[u8], cand: &[u8], room: &mut [u8], cycle: &mut [u32]) -> Ve
     if LONGEST_TEXT < text.len() {
         return refuse(Kind::Long, LONGEST_TEXT);
     }
-    // A short text gets a short tape, which is cleared sooner.
+    // Two functions, so that the long tape is not in the frame of a short text.
     if text.len() <= SHORT_TEXT {
-        let mut tape = [0u32; SHORT_TEXT];
-        return decided(text, cand, &mut tape, room, cycle);
+        return judge_short(text, cand, room, cycle);
     }
-    let mut tape = [0u32; LONGEST_TEXT];
-    decided(text, cand, &mut tape, room, cycle)
+    judge_long(text, cand, room, cycle)
 }
 
 // The time of a name in a timetable; or 20 where the slice is none, or 21 where the name is not in it.

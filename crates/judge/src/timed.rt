@@ -1,9 +1,9 @@
 // From the differences that the lines state and a candidate to 10, 11 or the timetable.
 ghost use mathlib.Core.Path.{_≡_};
 ghost use mathlib.Core.List.{List};
-ghost use Prim.Native.Nat.{ℕ};
+ghost use Prim.Native.Nat.{ℕ, _≤_};
 ghost use lib.ListN.{length};
-ghost use Rattle.basics.specs.inner.Bitmaps.{markedFrom};
+ghost use Rattle.basics.specs.inner.Bitmaps.{isMarked, markedFrom};
 ghost use Rattle.faults.specs.inner.Places.{termPlaces};
 ghost use Rattle.aspif.specs.Statements.{Line};
 ghost use Rattle.diffs.specs.inner.Answer.{diffAt};
@@ -23,6 +23,17 @@ use terms::marks::mark_names;
 // The latest time that may be written.
 const LARGEST_TIME: u64 = 2147483647;
 
+// Whether an atom is marked in x.
+fn holds(x: &[u8], atom: u32) -> bool
+    ensures { λ r. ⌜ r ≡ isMarked (now (x .entry)) atom ⌝ }
+{
+    let i = atom as usize;
+    if x.len() <= i {
+        return false;
+    }
+    x[i] == 1
+}
+
 // How many of the first m differences have an atom in x: these are moved into the first places.
 fn gather(
     atoms: &mut [u32],
@@ -32,7 +43,7 @@ fn gather(
     m: usize,
     x: &[u8],
 ) -> usize
-    requires { ⌜ Filled m (now atoms) (now xs) (now ys) (now ks) × Candidate (now x) ⌝ }
+    requires { ⌜ Filled m (now atoms) (now xs) (now ys) (now ks) ⌝ }
     ensures { λ r. ⌜ Gathered m (inForce (now (x .entry)) (stated m (now (atoms .entry)) (now (xs .entry)) (now (ys .entry)) (now (ks .entry)))) r (now (atoms .exit)) (now (xs .exit)) (now (ys .exit)) (now (ks .exit)) ⌝ }
 {
     let mut n = 0;
@@ -41,8 +52,7 @@ fn gather(
         let here = i;
         i += 1;
         let a = atoms[here];
-        let at = a as usize;
-        if x[at] != 1 {
+        if !holds(x, a) {
             continue;
         }
         let u = xs[here];
@@ -59,7 +69,7 @@ fn gather(
 
 // 11 with the smallest marked name whose time is above the latest, or nothing.
 fn late(names: &[u8], times: &[u64]) -> Step
-    requires { ⌜ length (now names) ≡ length (now times) ⌝ }
+    requires { ⌜ length (now names) ≤ length (now times) ⌝ }
     ensures { λ r. ⌜ asChecked r ≡ inTime (markedFrom 0 (now (names .entry))) (timeAt (now (times .entry))) ⌝ }
 {
     let mut i = 0;
@@ -109,7 +119,7 @@ fn settled(
     ensures { λ r. ⌜ Settled (length (now (ks .entry))) (diffAt (now (xs .entry)) (now (ys .entry)) (now (ks .entry))) (now (labels .entry)) (now (names .entry)) (now (x .entry)) (rooms (now (room .entry)) (now (cycle .entry))) (result r (now (room .exit)) (now (cycle .exit))) ⌝ }
 {
     let mut times = [0u64; TERM_PLACES];
-    let o = diffs::decide(xs, ys, ks, labels, &mut times, cycle);
+    let o = diffs::decide(xs, ys, ks, labels, labels, &mut times, cycle);
     let Outcome::Cycle(k) = o else {
         return written(names, &times, x, room);
     };

@@ -17,7 +17,7 @@ use Rattle.timetable.proofs.Bounds.{names-few}
 use Rattle.timetable.proofs.Content.{records-length, front-back}
 use Rattle.timetable.proofs.Writing.{length-table}
 use Rattle.judge.specs.Plan.{Asked, Rooms}
-use Rattle.judge.specs.Judged.{refusal, Result, accepting, Judged, cyclic, timed, unfounded, founded, breaks, sound, unreadable, ready}
+use Rattle.judge.specs.Judged.{refusal, Result, accepting, Judged, impossible, possible, unsupported, supported, breaks, sound, unreadable, judgeable}
 use Rattle.judge.proofs.Judgements.{verdicts}
 use Rattle.judge.proofs.Tables.{content, content-within, table-got}
 use Rattle.report.specs.Report.{digitsTo, decimal, spaced, two, spacedAll, listLine, recordLine, recordLines, acceptedWord, refusedWord, acceptedLines, refusedLines, printed, Reported}
@@ -95,10 +95,10 @@ judged-fits a b r out j h n = go j
 
     go : Judged a b r → Reportable (r .verdict) (r .rooms .room) × RoomAt (printed (r .verdict) (r .rooms)) out 0
     go (unreadable k p e f) = of-refusal k p (verdicts f)
-    go (ready q e (breaks p f g)) = of-refusal 8 p (verdicts g)
-    go (ready q e (sound f (unfounded c g i))) = of-refusal 9 c (verdicts i)
-    go (ready q e (sound f (founded g (cyclic cs i l)))) = of-refusal 10 (length cs) (verdicts l)
-    go (ready q e (sound f (founded g (timed u i ns m l)))) = of-table (content ns u (q .atoms)) (content-within a b q e u i ns m) (rw (table-got a b q e u i ns m) at l)
+    go (judgeable q e (breaks p f g)) = of-refusal 8 p (verdicts g)
+    go (judgeable q e (sound f (unsupported c g i))) = of-refusal 9 c (verdicts i)
+    go (judgeable q e (sound f (supported g (impossible cs i l)))) = of-refusal 10 (length cs) (verdicts l)
+    go (judgeable q e (sound f (supported g (possible u i ns m l)))) = of-table (content ns u (q .atoms)) (content-within a b q e u i ns m) (rw (table-got a b q e u i ns m) at l)
 
 -- written from the first place on, it stands before what was there
 pub written-whole : {i : Asked} {r : Result} {a b : List ℕ} {n : ℕ} → Judged i (record { room = replicate tableRoom 0; cycle = replicate cycleRoom 0 }) r

@@ -8,7 +8,7 @@ use Rattle.faults.specs.Answer.{got}
 use Rattle.timetable.specs.Table.{recordsOf, tableOf}
 use Rattle.timetable.proofs.Content.{front-back}
 use Rattle.judge.specs.Plan.{Asked, Rooms, Ready, readable}
-use Rattle.judge.specs.Judged.{acceptance, Result, Judged, cyclic, timed, unfounded, founded, breaks, sound, unreadable, ready}
+use Rattle.judge.specs.Judged.{acceptance, Result, Judged, impossible, possible, unsupported, supported, breaks, sound, unreadable, judgeable}
 use Rattle.judge.specs.Demand2.{ShowsCycle}
 use Rattle.judge.proofs.Judgements.{verdicts, not-accepted}
 use Rattle.judge.proofs.Tables.{content, content-within, table-got}
@@ -30,10 +30,10 @@ module _ (a : Asked) (b : Rooms) (r : Result) where
   times : Judged a b r → (n : ℕ) → r .verdict ≡ acceptance n → (q : Ready) × (readable a b ≡ got q) × Times q (printed (r .verdict) (r .rooms))
   unfolding acceptedLines
   times (unreadable k p e f) n v = absurd (not-accepted (sym v ∙ verdicts f))
-  times (ready q e (breaks p f g)) n v = absurd (not-accepted (sym v ∙ verdicts g))
-  times (ready q e (sound f (unfounded c g h))) n v = absurd (not-accepted (sym v ∙ verdicts h))
-  times (ready q e (sound f (founded g (cyclic cs h i)))) n v = absurd (not-accepted (sym v ∙ verdicts i))
-  times (ready q e (sound f (founded g (timed u h ns all j)))) n v =
+  times (judgeable q e (breaks p f g)) n v = absurd (not-accepted (sym v ∙ verdicts g))
+  times (judgeable q e (sound f (unsupported c g h))) n v = absurd (not-accepted (sym v ∙ verdicts h))
+  times (judgeable q e (sound f (supported g (impossible cs h i)))) n v = absurd (not-accepted (sym v ∙ verdicts i))
+  times (judgeable q e (sound f (supported g (possible u h ns all j)))) n v =
       let c = content ns u (q .atoms) in
       let o = front-back c (content-within a b q e u h ns all) (drop (length (tableOf c)) (b .room)) in (
         q,

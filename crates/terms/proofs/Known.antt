@@ -12,7 +12,7 @@ use Rattle.basics.proofs.Bools.{or-assoc, or-none, or-true, or-neither}
 use Rattle.aspif.specs.Statements.{Theory, defines, collects, states, Line, theoryIn}
 use Rattle.terms.specs.Says.{orElse, termIn, term, elementIn, elementAt}
 use Rattle.terms.specs.Terms.{known, statesIn, taken, defined, faulty, statedBy, more, differencesFrom, differences}
-use Rattle.terms.specs.inner.Tables.{changed, add, walk, termOn, elementOn, lookIn, elementsIn, takenIn, envOf, AllZero}
+use Rattle.terms.specs.inner.Tables.{changed, knownWith, walk, termOn, elementOn, lookIn, elementsIn, takenIn, envOf, AllZero}
 
 -- ---- more lines
 
@@ -83,8 +83,8 @@ module _ (before : List Line) (l : Line) where
   taken-with = fun-ext (λ a. taken-append before (l ∷ []) a ∙ rw (or-none (statesIn a (theoryIn (l .says)))))
 
   -- a line that is not faulty adds what it says
-  add-known : (s : Option Theory) → theoryIn (l .says) ≡ s → faulty (known before) s ≡ false → add (known before) s ≡ known (before ++ (l ∷ []))
-  unfolding add faulty
+  add-known : (s : Option Theory) → theoryIn (l .says) ≡ s → faulty (known before) s ≡ false → knownWith (known before) s ≡ known (before ++ (l ∷ []))
+  unfolding knownWith faulty
   add-known (some (defines u x)) e h =
       rw (terms-with, elements-with, taken-with, e, one-more (term before) u x (undefined (term before u) (or-neither _ _ h .0)), none-more (elementAt before), none-taken (taken before))
   add-known (some (collects v x)) e h =
@@ -101,7 +101,7 @@ walk-is before [] = refl
 walk-is before (l ∷ ls) = go (walk-is (before ++ (l ∷ [])) ls) (faulty (known before) (theoryIn (l .says))) refl
   where
     go : walk (known (before ++ (l ∷ []))) ls ≡ differencesFrom (before ++ (l ∷ [])) ls → (b : Bool) → faulty (known before) (theoryIn (l .says)) ≡ b
-        → pick b (refused 6 (l .place)) (more (statedBy (known before) (theoryIn (l .says))) (walk (add (known before) (theoryIn (l .says))) ls))
+        → pick b (refused 6 (l .place)) (more (statedBy (known before) (theoryIn (l .says))) (walk (knownWith (known before) (theoryIn (l .says))) ls))
         ≡ pick b (refused 6 (l .place)) (more (statedBy (known before) (theoryIn (l .says))) (differencesFrom (before ++ (l ∷ [])) ls))
     go r true q = refl
     go r false q = rw (add-known before l (theoryIn (l .says)) refl q, r)

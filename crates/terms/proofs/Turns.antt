@@ -23,7 +23,7 @@ use Rattle.aspif.proofs.Walking.{size-is}
 use Rattle.diffs.specs.Diff.{Diff}
 use Rattle.terms.specs.Says.{diffWord, atMost}
 use Rattle.terms.specs.Terms.{defined, allDefined, isString, boundOf, Pair, pairIn, joined, differenceOf, guardUses, Stated, faulty, more}
-use Rattle.terms.specs.inner.Tables.{roleOf, termOf, elementOf, termOn, elementOn, lookIn, elementsIn, takenIn, envOf, differenceIn, statedOn, changed, add, walk, heldAt, tabulated, gather}
+use Rattle.terms.specs.inner.Tables.{roleOf, termOf, elementOf, termOn, elementOn, lookIn, elementsIn, takenIn, envOf, differenceIn, statedOn, changed, knownWith, walk, heldAt, tabulated, gather}
 use Rattle.terms.specs.inner.Values.{differenceWords, Roomy, Within, asTurn, Lasting, Turned, RoomFor, Stored}
 use Rattle.terms.specs.declared.lines.Turn.{Turn}
 use Rattle.terms.specs.declared.lines.Role.the-variants as role
@@ -74,20 +74,20 @@ module _ (t terms els seen : List ℕ) (p : ℕ) where
 
   pub term-turned : roleOf (word t (p + 2)) ≡ role.Term → (u : ℕ) (terms′ : List ℕ) → false ≡ fault → u ≡ word t (p + 2 + 1) → u < length terms → terms′ ≡ set terms u (p + 2 + 1)
       → Turned t p terms els seen turn.Goes terms′ els seen
-  unfolding walk add envOf
+  unfolding walk knownWith envOf
   term-turned r u terms′ b eu l e =
       let d = rw r at (role-does t (p + 2)) in
       record { goes = λ ls. rw (← b, e, terms-entered t (p + 2) terms u l, d .1, eu); lasts = tt }
 
   pub element-turned : roleOf (word t (p + 2)) ≡ role.Element → (v : ℕ) (els′ : List ℕ) → false ≡ fault → v ≡ word t (p + 2 + 1) → v < length els → els′ ≡ set els v (p + 2 + 1)
       → Turned t p terms els seen turn.Goes terms els′ seen
-  unfolding walk add envOf
+  unfolding walk knownWith envOf
   element-turned r v els′ b ev l e =
       let d = rw r at (role-does t (p + 2)) in
       record { goes = λ ls. rw (← b, e, elements-entered t (p + 2) els v l, d .1, ev); lasts = tt }
 
   pub other-turned : roleOf (word t (p + 2)) ≡ role.Other → Turned t p terms els seen turn.Goes terms els seen
-  unfolding walk add faulty
+  unfolding walk knownWith faulty
   other-turned r = let d = rw r at (role-does t (p + 2)) in record { goes = λ ls. rw d; lasts = tt }
 
 -- ---- a difference uses nothing that is unknown
@@ -147,7 +147,7 @@ module _ (t terms els seen : List ℕ) (p : ℕ) (r : roleOf (word t (p + 2)) �
       → a ≡ word t (p + 2 + 1) → false ≡ takenIn seen a → some f ≡ statedOn t terms els (p + 2) → a < length seen → seen′ ≡ set seen a 1
       → asTurn x ≡ got (some (record { atom = a; says = f }))
       → Turned t p terms els seen x terms els seen′
-  unfolding faulty walk add envOf statedOn
+  unfolding faulty walk knownWith envOf statedOn
   atom-turned x a f seen′ on ea ee fd l es ex =
       let d = rw r at (role-does t (p + 2)) in
       let g = rw (d .1) at fd in

@@ -15,13 +15,15 @@ use Rattle.basics.specs.inner.Bitmaps.{isMarked, markedFrom}
 use Rattle.basics.specs.Lists.{All, Distinct}
 use Rattle.aspif.specs.Statements.{Line}
 use Rattle.aspif.specs.inner.Kept.{FromTo, AllInRange}
-use Rattle.aspif.specs.inner.Bitmap.{atomsOf}
+use Rattle.aspif.specs.inner.Bitmap.{atomsOf, EndsAt}
 use Rattle.diffs.specs.Diff.{Diff, Earliest}
 use Rattle.terms.specs.Terms.{Stated, differences}
 use Rattle.terms.specs.inner.Tables.{tabulated, heldAt, SmallDiff}
-use Rattle.terms.specs.inner.Values.{Roomy}
-use Rattle.judge.specs.Plan.{Rooms, Ready, ready}
-use Rattle.judge.specs.Judged.{Result, refusal, accepting, table}
+use Rattle.terms.specs.inner.Values.{Within}
+use Rattle.judge.specs.Plan.{Asked, Rooms, Ready, ready}
+use Rattle.judge.specs.Judged.{Result, refusal, refusing, accepting, table, Timed, Judged}
+use Rattle.judge.specs.declared.Untimed.{Untimed}
+use Rattle.judge.specs.declared.Untimed.the-variants as untimed
 use Rattle.faults.specs.declared.Step.the-variants as step
 use Rattle.diffs.specs.inner.Answer as diffs
 use Rattle.timetable.specs.inner.Given as timetable
@@ -34,11 +36,11 @@ stated m atoms xs ys ks = tabulated m (heldAt atoms xs ys ks)
 pub record Stating (ls : List Line) (m : ℕ) (atoms xs ys : List ℕ) (ks : List ℤ) : Type 0 where
   pub small : AllInRange ls
   pub stated : differences ls ≡ got (stated m atoms xs ys ks)
-  pub roomy : Roomy atoms xs ys ks
+  pub roomy : Within m atoms xs ys ks
 
--- a bitmap of the atoms of a candidate
+-- a bitmap of the atoms of a candidate, to its last or further
 pub record Candidate (x : List ℕ) : Type 0 where
-  pub places : length x ≡ atomPlaces
+  pub places : length x ≤ atomPlaces
   pub none : isMarked x 0 ≡ false
 
 -- rooms that are long enough
@@ -50,6 +52,21 @@ pub record Sized (room cycle : List ℕ) : Type 0 where
 abbrev pub readyAt : List Line → (x : List ℕ) → Ready
 readyAt ls x = ready ls (atomsOf x)
 
+-- ---- before the times
+
+-- what is known of a stable candidate: the lines state the differences in the slices, x has its atoms to the last, and the times decide what is left
+pub record Upheld (a : Asked) (m last : ℕ) (x atoms xs ys : List ℕ) (ks : List ℤ) : Type 0 where
+  pub lines : List Line
+  pub stating : Stating lines m atoms xs ys ks
+  pub candidate : Candidate x
+  pub ends : EndsAt last x
+  pub decides : (b : Rooms) (r : Result) → Sized (b .room) (b .cycle) → Timed (readyAt lines x) b r → Judged a b r
+
+-- a refusal in any rooms that are long enough, or that
+abbrev pub BeforeTimes : Untimed → Asked → (x atoms xs ys : List ℕ) → List ℤ → Type 0
+BeforeTimes (untimed.Stable m last) a x atoms xs ys ks = Upheld a m (last .0) x atoms xs ys ks
+BeforeTimes (untimed.Refused f) a x atoms xs ys ks = (b : Rooms) → Sized (b .room) (b .cycle) → Judged a b (refusing b (number (f .kind)) (f .place))
+
 -- ---- the differences in force
 
 -- an atom to 4,096, and a difference within its bounds
@@ -58,8 +75,7 @@ SmallStated s = SmallDiff (s .says) × (s .atom < atomPlaces)
 
 -- the first m places of four slices have differences within their bounds, of different atoms
 pub record Filled (m : ℕ) (atoms xs ys : List ℕ) (ks : List ℤ) : Type 0 where
-  pub few : m ≤ atomPlaces
-  pub roomy : Roomy atoms xs ys ks
+  pub roomy : Within m atoms xs ys ks
   pub small : All SmallStated (stated m atoms xs ys ks)
   pub differ : Distinct (map (λ (s : Stated). s .atom) (stated m atoms xs ys ks))
 
@@ -88,9 +104,9 @@ pub record Labelled (labels xs ys : List ℕ) (ks : List ℤ) : Type 0 where
 
 -- of the differences c 0, .., c (n - 1): a negative cycle is shown, or the names' earliest times and the atoms are written, or 11
 pub data Settled (n : ℕ) (c : ℕ → Diff) (labels names x : List ℕ) (b : Rooms) (r : Result) : Type 0 where
-  shown : (k : ℕ) (cycle : List ℕ) → diffs.Shown n c labels (b .cycle) cycle k
+  cycleShown : (k : ℕ) (cycle : List ℕ) → diffs.Shown n c labels labels (b .cycle) cycle k
       → r ≡ record { verdict = refusal 10 k; rooms = record { room = b .room; cycle = cycle } } → Settled n c labels names x b r
-  written : (u : ℕ → ℕ) → Earliest (diffs.Among n c) u
+  tableWritten : (u : ℕ → ℕ) → Earliest (diffs.Among n c) u
       → r ≡ accepting b (table (markedFrom 0 names) u (markedFrom 1 x)) → Settled n c labels names x b r
 
 -- ---- the check for 11

@@ -107,11 +107,11 @@ abbrev pub changed : {A : Type 0} → (ℕ → A) → ℕ → A → ℕ → A
 changed f i a j = pick (eqb j i) a (f j)
 
 -- what was known, and what a statement adds
-unfoldable pub add : Env → Option Theory → Env
-add env (some (defines u x)) = record { terms = changed (env .terms) u (some x); elements = env .elements; taken = env .taken }
-add env (some (collects v e)) = record { terms = env .terms; elements = changed (env .elements) v (some e); taken = env .taken }
-add env (some (states a p vs g)) = record { terms = env .terms; elements = env .elements; taken = changed (env .taken) a true }
-add env none = env
+unfoldable pub knownWith : Env → Option Theory → Env
+knownWith env (some (defines u x)) = record { terms = changed (env .terms) u (some x); elements = env .elements; taken = env .taken }
+knownWith env (some (collects v e)) = record { terms = env .terms; elements = changed (env .elements) v (some e); taken = env .taken }
+knownWith env (some (states a p vs g)) = record { terms = env .terms; elements = env .elements; taken = changed (env .taken) a true }
+knownWith env none = env
 
 -- the differences that lines state, behind what is known; or 6 at the first that is faulty
 unfoldable pub walk : Env → List Line → Answer (List Stated)
@@ -119,7 +119,7 @@ walk env [] = got []
 walk env (l ∷ ls) =
     pick (faulty env (theoryIn (l .says)))
     (refused 6 (l .place))
-    (more (statedBy env (theoryIn (l .says))) (walk (add env (theoryIn (l .says))) ls))
+    (more (statedBy env (theoryIn (l .says))) (walk (knownWith env (theoryIn (l .says))) ls))
 
 -- ---- the differences that four slices hold
 
