@@ -1,4 +1,4 @@
--- Believed: the candidate: document 01, 'The candidate'. Any fault is 7. Assumes nothing.
+-- Believed: the candidate: docs/RULES.md, 'The candidate'. Any fault is 7. Assumes nothing.
 use Prim.Native.Nat.{ℕ, zero, suc, _+_}
 use mathlib.Core.List.{List, [], _∷_}
 use lib.Dec.{eqb, leb}

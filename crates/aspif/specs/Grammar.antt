@@ -1,4 +1,4 @@
--- Believed: the grammar of a plan, one definition a sentence of document 01, 'Reading the text', and of W1. It can be run.
+-- Believed: the grammar of a plan, one definition a sentence of docs/RULES.md, 'Reading the text'. It can be run.
 -- A reader is given the place of the line's first byte where that is the place of a refusal. Assumes nothing.
 use Prim.Native.Nat.{ℕ, zero, suc, _+_, _/_, _%_}
 use mathlib.Core.List.{List, [], _∷_, map}

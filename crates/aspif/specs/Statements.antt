@@ -1,4 +1,4 @@
--- Believed: what the lines of a plan say: document 01, 'Reading the text', and weight bodies by W1. Assumes nothing.
+-- Believed: what the lines of a plan say: docs/RULES.md, 'Reading the text'. Assumes nothing.
 use Prim.Native.Nat.{ℕ}
 use mathlib.Core.Bool.{Bool}
 use mathlib.Core.List.{List, [], _∷_, _++_, map}

@@ -1,4 +1,4 @@
--- What the documents take for granted.
+-- What docs/RULES.md takes for granted.
 pub mod Bools
 pub mod Lists
 pub mod inner

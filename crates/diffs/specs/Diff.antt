@@ -1,4 +1,4 @@
--- Believed: differences x - y ≤ k between times, what it is for times to keep them, the earliest times, and a negative cycle: document 01, 'Meaning'.
+-- Believed: differences x - y ≤ k between times, what it is for times to keep them, the earliest times, and a negative cycle: docs/RULES.md, 'Meaning'.
 -- All are over a set S of differences in force, `S : Diff → Type 0`. Assumes nothing.
 use mathlib.Core.Path.{_≡_}
 use mathlib.Core.List.{List, [], _∷_, map}

@@ -1,4 +1,4 @@
--- Believed: an answer: a value, or a refusal with the paper's number and place. Assumes nothing.
+-- Believed: an answer: a value, or a refusal with its number and place: docs/RULES.md, 'Verdicts'. Assumes nothing.
 use Prim.Native.Nat.{ℕ}
 use mathlib.Core.Bool.{Bool, true, false}
 

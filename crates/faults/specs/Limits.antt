@@ -1,4 +1,4 @@
--- Believed: document 01, 'Numbers that bound it', and those of W1. Assumes nothing.
+-- Believed: docs/RULES.md, 'Numbers that bound it'. Assumes nothing.
 use Prim.Native.Nat.{ℕ}
 
 -- the bytes of the longest text

@@ -1,4 +1,4 @@
--- Believed: the paper's number of each kind, and the answer that each case of a step stands for. Assumes nothing.
+-- Believed: the number of each kind, docs/RULES.md, 'Verdicts', and the answer that each case of a step stands for. Assumes nothing.
 use Prim.Native.Nat.{ℕ}
 use Rattle.faults.specs.Answer.{Answer, got, refused}
 use Rattle.faults.specs.declared.Kind.{Kind}

@@ -1,4 +1,4 @@
-// The paper's vocabulary: the kinds of refusal, a refusal with its place, the three countings.
+// The vocabulary of docs/RULES.md: the kinds of refusal, a refusal with its place, the three countings.
 ghost use mathlib.Core.Path.{_≡_};
 ghost use mathlib.Core.Bool.{false};
 ghost use Rattle.faults.specs.Answer.{isGot, refused};
@@ -46,7 +46,7 @@ pub const TERM_PLACES: usize = 1024;
 // The places of a table by elements.
 pub const ELEMENT_PLACES: usize = 1024;
 
-// One case a number of the paper's table: 1 to 11, then 20 and 21 of the timetable's reader.
+// One case a number of the table of verdicts: 1 to 11, then 20 and 21 of the timetable's reader.
 pub enum Kind {
     Room,
     Long,
@@ -64,7 +64,7 @@ pub enum Kind {
 }
 
 impl Kind {
-    // The paper's number of the kind.
+    // The number of the kind.
     pub fn number(self) -> u32
         ensures { λ r. ⌜ r ≡ number self ⌝ }
     {

@@ -1,4 +1,4 @@
--- Believed: the fields of a line, document 01, 'Reading the text'. A field's form comes first, then whether it is carried, then its range;
+-- Believed: the fields of a line, docs/RULES.md, 'Reading the text'. A field's form comes first, then whether it is carried, then its range;
 -- a separator is read before the field that follows it. Assumes nothing.
 use Prim.Native.Nat.{ℕ, zero, suc, _+_, _-_, _*_}
 use mathlib.Core.List.{List, [], _∷_}

@@ -1,4 +1,4 @@
--- Plans P and Q of document 01 with one further time rule, send - recv ≤ -w as atom 4: their texts, their lines and what these state. Assumes nothing.
+-- Plans P and Q of docs/RULES.md with one further time rule, send - recv ≤ -w as atom 4: their texts, their lines and what these state. Assumes nothing.
 use Prim.Native.Nat.{ℕ, _+_}
 use Prim.Native.String.{String}
 use mathlib.Core.Path.{_≡_, refl}

@@ -1,4 +1,4 @@
--- Demand 3 applies: six pairs of texts, plans P and Q of document 01 and each with a further time rule send - recv ≤ -w, one pair for each thing that demand 3 says.
+-- Demand 3 applies: six pairs of texts, plans P and Q of docs/RULES.md and each with a further time rule send - recv ≤ -w, one pair for each thing that demand 3 says.
 -- All hold for all rooms that are long enough, and all results that the judge's contract allows. Assumes nothing.
 use Prim.Native.Nat.{ℕ, _≤_}
 use mathlib.Core.Path.{_≡_, refl, sym, ap, _∙_}

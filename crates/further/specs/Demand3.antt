@@ -1,4 +1,4 @@
--- Believed: demand 3, as one statement about what `Judged` allows: a further time rule makes nothing earlier. Assumes nothing.
+-- Believed: demand 3 of docs/RULES.md, as one statement about what `Judged` allows: a further time rule makes nothing earlier. Assumes nothing.
 use Prim.Native.Nat.{ℕ, _≤_}
 use mathlib.Core.Path.{_≡_}
 use mathlib.Core.Bool.{true}

@@ -1,4 +1,4 @@
--- The starred cases of document 01. Assumes nothing.
+-- The starred cases of docs/RULES.md. Assumes nothing.
 use Prim.Native.Nat.{ℕ, _+_, _*_, _≤_, _<_}
 use mathlib.Core.Path.{_≡_, refl, ap, _∙_}
 use mathlib.Core.Bool.{true, false}

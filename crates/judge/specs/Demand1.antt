@@ -1,4 +1,4 @@
--- Believed: demand 1, what a result leaves of the rooms, as one statement about what `Judged` allows. Assumes nothing.
+-- Believed: demand 1 of docs/RULES.md, what a result leaves of the rooms, as one statement about what `Judged` allows. Assumes nothing.
 use Prim.Native.Nat.{ℕ}
 use mathlib.Core.Path.{_≡_}
 use mathlib.Core.Logic.{_⊎_}

@@ -1,4 +1,4 @@
--- Believed: demand 2, as one statement about what `Judged` allows. Assumes nothing.
+-- Believed: demand 2 of docs/RULES.md, as one statement about what `Judged` allows. Assumes nothing.
 use Prim.Native.Nat.{ℕ}
 use mathlib.Core.Path.{_≡_}
 use mathlib.Core.Logic.{_⊎_, _↔_}

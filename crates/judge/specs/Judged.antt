@@ -1,4 +1,4 @@
--- Believed: what the judge answers, and what both rooms hold then, for every input: document 01, 'Verdicts'.
+-- Believed: what the judge answers, and what both rooms hold then, for every input: docs/RULES.md, 'Verdicts'.
 -- Four steps in the order of the refusals' numbers; each is left by a refusal or goes on to the next. Assumes nothing.
 use Prim.Native.Nat.{ℕ}
 use mathlib.Core.Path.{_≡_}
@@ -16,7 +16,7 @@ use Rattle.terms.specs.Terms.{external}
 use Rattle.stable.specs.Meaning.{unbroken, brokenAt, firstBroken, Founded, SmallestUnfounded}
 use Rattle.judge.specs.Plan.{Asked, Rooms, Ready, holds, readable, Held, InForce}
 
--- a verdict by the paper's numbers: accepted with the timetable's length, or refused with number and place
+-- a verdict by its numbers: accepted with the timetable's length, or refused with number and place
 pub data Judgement : Type 0 where
   acceptance : (length : ℕ) → Judgement
   refusal : (number place : ℕ) → Judgement

@@ -1,4 +1,4 @@
--- Believed: a readable plan with its candidate: refusals 1 to 7 in the order of document 01, 'Verdicts', and the rules that hold. Assumes nothing.
+-- Believed: a readable plan with its candidate: refusals 1 to 7 in the order of docs/RULES.md, 'Verdicts', and the rules that hold. Assumes nothing.
 use Prim.Native.Nat.{ℕ}
 use mathlib.Core.Path.{_≡_}
 use mathlib.Core.Bool.{Bool, true}

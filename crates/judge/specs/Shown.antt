@@ -1,4 +1,4 @@
--- Believed: showing a fault: document 01, the end of 'Verdicts'. Assumes nothing.
+-- Believed: showing a fault: docs/RULES.md, the end of 'Verdicts'. Assumes nothing.
 use Prim.Native.Nat.{ℕ, _+_, min}
 use mathlib.Core.Path.{_≡_}
 use mathlib.Core.Bool.{Bool, true, _||_}

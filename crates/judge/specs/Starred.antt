@@ -1,4 +1,4 @@
--- Believed: the starred cases of document 01, 'Plan P and its neighbours', in one statement about what `Judged` allows. Assumes nothing.
+-- Believed: the starred cases of docs/RULES.md, 'Plan P and its neighbours', in one statement about what `Judged` allows. Assumes nothing.
 use Prim.Native.Nat.{ℕ, _≤_}
 use mathlib.Core.Path.{_≡_}
 use mathlib.Core.List.{List, [], _∷_}

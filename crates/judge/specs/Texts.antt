@@ -1,4 +1,4 @@
--- Believed: the texts of document 01, 'Plan P and its neighbours', as bytes. Assumes nothing.
+-- Believed: the texts of docs/RULES.md, 'Plan P and its neighbours', as bytes. Assumes nothing.
 use Prim.Native.Nat.{ℕ}
 use Prim.Native.Char.{code}
 use Prim.Native.String.{String}

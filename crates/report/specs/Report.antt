@@ -1,4 +1,4 @@
--- Believed: what the program prints of a result: document 01, at the end of 'Plan P and its neighbours'. Every line ends in byte 10. Assumes nothing.
+-- Believed: what the program prints of a result: docs/RULES.md, 'What the program prints'. Every line ends in byte 10. Assumes nothing.
 use mathlib.Core.Path.{_≡_}
 use Prim.Native.Nat.{ℕ, zero, suc, _+_, _/_, _%_}
 use mathlib.Core.List.{List, [], _∷_, _++_}

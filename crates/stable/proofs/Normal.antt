@@ -1,4 +1,4 @@
--- A normal body, as document 01 says it. Assumes nothing.
+-- A normal body, as docs/RULES.md says it. Assumes nothing.
 use Prim.Native.Nat.{suc, _+_, _≤_}
 use mathlib.Core.Bool.{Bool, true, false, not, cond, _&&_}
 use mathlib.Core.List.{List, [], _∷_, map}

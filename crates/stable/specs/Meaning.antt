@@ -1,5 +1,5 @@
--- Believed: broken rules, unfounded atoms and stable candidates, over the lines of a plan: document 01, 'Meaning', and W1.
--- What document 01 says of normal bodies alone is in Normal. Assumes nothing.
+-- Believed: broken rules, unfounded atoms and stable candidates, over the lines of a plan: docs/RULES.md, 'Meaning'.
+-- What docs/RULES.md says of normal bodies alone is in Normal. Assumes nothing.
 use Prim.Native.Nat.{ℕ, _+_, _-_, _<_}
 use mathlib.Core.Path.{_≡_}
 use mathlib.Core.Logic.{_↔_}

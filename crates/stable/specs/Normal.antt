@@ -1,4 +1,4 @@
--- Believed: document 01's words for a normal body, and that the one notion of Meaning keeps them. Assumes nothing.
+-- Believed: the words of docs/RULES.md for a normal body, and that the one notion of Meaning keeps them. Assumes nothing.
 use mathlib.Core.Path.{_≡_}
 use mathlib.Core.Bool.{Bool, true, not, _&&_}
 use mathlib.Core.List.{List, [], _∷_}

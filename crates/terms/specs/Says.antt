@@ -1,4 +1,4 @@
--- Believed: what difference atoms say, over the lines of a plan: document 01, 'Difference atoms' and 'Meaning'. Assumes nothing.
+-- Believed: what difference atoms say, over the lines of a plan: docs/RULES.md, 'Difference atoms' and 'Meaning'. Assumes nothing.
 use mathlib.Core.Path.{_≡_}
 use mathlib.Core.Bool.{Bool, true, false, _||_}
 use mathlib.Core.List.{List, [], _∷_}

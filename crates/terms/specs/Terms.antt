@@ -1,4 +1,4 @@
--- Believed: refusal 6: document 01, 'Difference atoms'. Lines are taken in order, each with what the lines before it define. It can be run. Assumes nothing.
+-- Believed: refusal 6: docs/RULES.md, 'Difference atoms'. Lines are taken in order, each with what the lines before it define. It can be run. Assumes nothing.
 use Prim.Native.Nat.{ℕ}
 use mathlib.Core.Path.{_≡_}
 use mathlib.Core.List.{List, [], _∷_, _++_}

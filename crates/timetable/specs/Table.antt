@@ -1,4 +1,4 @@
--- Believed: a timetable, that is its content, its bytes, its bounds, and which bytes are one. Assumes nothing.
+-- Believed: a timetable, that is its content, its bytes, its bounds, and which bytes are one: docs/RULES.md, 'Timetable bytes'. Assumes nothing.
 use Prim.Native.Nat.{ℕ, zero, suc, _+_, _*_}
 use mathlib.Core.Bool.{Bool, true, _&&_}
 use mathlib.Core.List.{List, [], _∷_, _++_, map}

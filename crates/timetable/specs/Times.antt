@@ -1,4 +1,4 @@
--- Believed: what the reader of a time answers. Assumes nothing.
+-- Believed: what the reader of a time answers: docs/RULES.md, 'Timetable bytes'. Assumes nothing.
 use Prim.Native.Nat.{ℕ}
 use mathlib.Core.List.{List, [], _∷_}
 use lib.Dec.{eqb}

@@ -1,4 +1,4 @@
--- Believed: fields of 32 bits, little-endian. Assumes nothing.
+-- Believed: fields of 32 bits, little-endian: docs/RULES.md, 'Timetable bytes'. Assumes nothing.
 use Prim.Native.Nat.{ℕ, _+_, _*_, _/_, _%_}
 use mathlib.Core.List.{List, [], _∷_}
 use lib.ListN.{getD}

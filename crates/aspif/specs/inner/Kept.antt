@@ -10,7 +10,7 @@ use Rattle.fields.specs.inner.Kept.{IsAtom, IsWeight}
 use Rattle.aspif.specs.Statements.{Literal, Head, empty, single, choice, Premise, Body, normal, weights, Term, num, str, comp, Element, elem, Guard, unguarded, guard, Theory, defines, collects, states, Statement, rule, output, theory, comment, Line, literalAtoms, premiseAtom}
 use Rattle.aspif.specs.inner.Words.{words, wordsFrom, saysAt, lineAt, after}
 
--- ---- bounds: document 01, 'Numbers that bound it', and W1
+-- ---- bounds: docs/RULES.md, 'Numbers that bound it'
 
 abbrev pub IsTerm : ℕ → Type 0
 IsTerm u = u ≤ lastTerm
