@@ -87,8 +87,8 @@ unfolding pair
 pair-refused ls cand k p e = rw (← e)
 
 -- no candidate marks atom 0
-pub marked : {cand x : List ℕ} {last : ℕ} → EndsAt last x → got (atomsOf x) ≡ candidate cand → Candidate x
-marked {cand} {x} h e = record { places = omega (arith, h .places); none = zero-unmarked cand x (sym e) }
+pub marked : (cand x : List ℕ) {last : ℕ} → EndsAt last x → got (atomsOf x) ≡ candidate cand → Candidate x
+marked cand x h e = record { places = omega (arith, h .places); none = zero-unmarked cand x (sym e) }
 
 -- the front of a bitmap, to the last atom, has the same atoms
 pub front-ready : {ls : List Line} {x : List ℕ} {last : ℕ} → EndsAt last x → readyAt ls (take (last + 1) x) ≡ readyAt ls x
@@ -125,7 +125,7 @@ module _ {a : Asked} {tape : List ℕ} {n : ℕ} {atoms xs ys : List ℕ} {ks : 
   pub mispaired : {k q : ℕ} → refused k q ≡ candidate (a .cand) → (b : Rooms) → Sized (b .room) (b .cycle) → Judged a b (refusing b k q)
   mispaired e b z = unreadable _ _ (p .decides b z ∙ pair-refused _ _ _ _ e) refl
 
-  module _ {x : List ℕ} (e : got (atomsOf x) ≡ candidate (a .cand)) where
+  module _ (x : List ℕ) (e : got (atomsOf x) ≡ candidate (a .cand)) where
     ready-for : (b : Rooms) → Sized (b .room) (b .cycle) → readable a b ≡ got (readyAt (linesOf tape n) x)
     ready-for b z = p .decides b z ∙ pair-ready _ _ _ e
 
@@ -137,7 +137,7 @@ module _ {a : Asked} {tape : List ℕ} {n : ℕ} {atoms xs ys : List ℕ} {ks : 
         (o : MarksThose atomPlaces ext (λ b. among b (take m atoms) && not (headed (linesOf tape n) b))) where
       -- 9 does
       pub unfounding : {q : ℕ} → FoundedBy (unfoundedAt q) (isMarked x) (isMarked ext) (linesOf tape n) → (b : Rooms) → Sized (b .room) (b .cycle) → Judged a b (refusing b 9 q)
-      unfounding {q} u b z = judgeable _ (ready-for b z) (sound (broken-as _ _ w) (unsupported q (founded-as (unfoundedAt q) (p .stating) (marked h e) o u) refl))
+      unfounding {q} u b z = judgeable _ (ready-for b z) (sound (broken-as _ _ w) (unsupported q (founded-as (unfoundedAt q) (p .stating) (marked _ _ h e) o u) refl))
 
       -- the times decide
       pub upheld : FoundedBy meaning.founded (isMarked x) (isMarked ext) (linesOf tape n) → Upheld a m last x atoms xs ys ks
@@ -145,7 +145,7 @@ module _ {a : Asked} {tape : List ℕ} {n : ℕ} {atoms xs ys : List ℕ} {ks : 
           record {
             lines = linesOf tape n;
             stating = p .stating;
-            candidate = marked h e;
+            candidate = marked _ _ h e;
             ends = h;
-            decides = λ b r z t. judgeable _ (ready-for b z) (sound (broken-as _ _ w) (supported (founded-as meaning.founded (p .stating) (marked h e) o u) t));
+            decides = λ b r z t. judgeable _ (ready-for b z) (sound (broken-as _ _ w) (supported (founded-as meaning.founded (p .stating) (marked _ _ h e) o u) t));
           }

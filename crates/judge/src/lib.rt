@@ -7,10 +7,10 @@ ghost use Rattle.faults.specs.inner.Places.{shortText};
 ghost use Rattle.aspif.specs.inner.Bitmap.{Blank};
 ghost use Rattle.terms.specs.inner.Values.{Roomy};
 ghost use Rattle.timetable.specs.Times.{asTime, timeOf};
-ghost use Rattle.judge.specs.Plan.{asked};
+ghost use Rattle.judge.specs.Plan.{Asked, asked};
 ghost use Rattle.judge.specs.Judged.{Judged};
 ghost use Rattle.judge.specs.Values.{rooms, result};
-ghost use Rattle.judge.specs.inner.Stages.{Sized, BeforeTimes};
+ghost use Rattle.judge.specs.inner.Stages.{Sized, BeforeTimes, Foregone};
 use aspif::candidate::Marked;
 use aspif::candidate::candidate;
 use faults::ATOM_PLACES;
@@ -65,7 +65,7 @@ fn refused(kind: Kind, place: usize) -> Untimed
 }
 
 // 3 to 9, of a text that fits the tape; or its differences in the first places of four slices, and the stable candidate in x.
-fn untimed(
+fn before_times(
     text: &[u8],
     cand: &[u8],
     tape: &mut [u32],
@@ -104,6 +104,29 @@ fn untimed(
     Untimed::Stable(m, last)
 }
 
+// The refusal that was found before the times; or 10, 11 or the timetable.
+fn ended(
+    u: Untimed,
+    atoms: &mut [u32],
+    xs: &mut [u32],
+    ys: &mut [u32],
+    ks: &mut [i32],
+    x: &[u8],
+    room: &mut [u8],
+    cycle: &mut [u32],
+) -> Verdict
+    requires { ⌜ Foregone u (now x) (now atoms) (now xs) (now ys) (now ks) × Sized (now room) (now cycle) ⌝ }
+    ensures { λ r. ⌜ ((a : Asked) → BeforeTimes u a (now (x .entry)) (now (atoms .entry)) (now (xs .entry)) (now (ys .entry)) (now (ks .entry)) → Judged a (rooms (now (room .entry)) (now (cycle .entry))) (result r (now (room .exit)) (now (cycle .exit)))) ⌝ }
+{
+    match u {
+        Untimed::Refused(r) => Verdict::Refused(r),
+        Untimed::Stable(m, last) => {
+            let top = last.0 as usize + 1;
+            timed(atoms, xs, ys, ks, m, &x[..top], room, cycle)
+        }
+    }
+}
+
 // 3 to 11 or the timetable, of a short text: its tape and slices are short too.
 pub fn judge_short(text: &[u8], cand: &[u8], room: &mut [u8], cycle: &mut [u32]) -> Verdict
     requires { ⌜ (length (now text) ≤ shortText) × Sized (now room) (now cycle) ⌝ }
@@ -115,25 +138,17 @@ pub fn judge_short(text: &[u8], cand: &[u8], room: &mut [u8], cycle: &mut [u32])
     let mut ys = [0u32; SHORT_DIFFERENCES];
     let mut ks = [0i32; SHORT_DIFFERENCES];
     let mut x = [0u8; ATOM_PLACES];
-    let u = untimed(
-        text, cand, &mut tape, &mut atoms, &mut xs, &mut ys, &mut ks, &mut x,
+    let u = before_times(
+        text,
+        cand,
+        &mut tape,
+        &mut atoms,
+        &mut xs,
+        &mut ys,
+        &mut ks,
+        &mut x,
     );
-    match u {
-        Untimed::Refused(r) => Verdict::Refused(r),
-        Untimed::Stable(m, last) => {
-            let top = last.0 as usize + 1;
-            timed(
-                &mut atoms,
-                &mut xs,
-                &mut ys,
-                &mut ks,
-                m,
-                &x[..top],
-                room,
-                cycle,
-            )
-        }
-    }
+    ended(u, &mut atoms, &mut xs, &mut ys, &mut ks, &x, room, cycle)
 }
 
 // 3 to 11 or the timetable, of any text that is not too long.
@@ -147,25 +162,17 @@ pub fn judge_long(text: &[u8], cand: &[u8], room: &mut [u8], cycle: &mut [u32]) 
     let mut ys = [0u32; LONG_DIFFERENCES];
     let mut ks = [0i32; LONG_DIFFERENCES];
     let mut x = [0u8; ATOM_PLACES];
-    let u = untimed(
-        text, cand, &mut tape, &mut atoms, &mut xs, &mut ys, &mut ks, &mut x,
+    let u = before_times(
+        text,
+        cand,
+        &mut tape,
+        &mut atoms,
+        &mut xs,
+        &mut ys,
+        &mut ks,
+        &mut x,
     );
-    match u {
-        Untimed::Refused(r) => Verdict::Refused(r),
-        Untimed::Stable(m, last) => {
-            let top = last.0 as usize + 1;
-            timed(
-                &mut atoms,
-                &mut xs,
-                &mut ys,
-                &mut ks,
-                m,
-                &x[..top],
-                room,
-                cycle,
-            )
-        }
-    }
+    ended(u, &mut atoms, &mut xs, &mut ys, &mut ks, &x, room, cycle)
 }
 
 // The verdict on a plan text and a candidate; the timetable's bytes in room, or a negative cycle's atoms in cycle.

@@ -29,11 +29,8 @@ returns-3 : tie.Need-returns-3
 unfolding readable lent legible
 returns-3 c = unreadable 2 longestText (rw (le-ltb _ _ (c .before .before .before .if1 .left), le-ltb _ _ (c .before .before .if2 .left), lt-ltb _ _ (c .before .if3 .taken))) (rw (c .refuse3 .ensures))
 
-slice-aggregate-decided : tie.Need-slice-aggregate-decided
-slice-aggregate-decided c = search needs
-
-decided-requires : tie.Need-decided-requires
-decided-requires c κs = (omega (arith, c .before .before .before .if4 .taken), omega arith, record { bytes = c .before .before .before .before .before .before .if1 .left; places = c .before .before .before .before .before .if2 .left })
+judge-short-requires : tie.Need-judge-short-requires
+judge-short-requires c κs = (c .before .before .if4 .taken, record { bytes = c .before .before .before .before .before .if1 .left; places = c .before .before .before .before .if2 .left })
 
 same-length : tie.Need-same-length
 same-length c = search needs
@@ -42,13 +39,10 @@ same-length-2 : tie.Need-same-length-2
 same-length-2 c = search needs
 
 returns-4 : tie.Need-returns-4
-returns-4 c = c .before .before .before .before .before .decided .ensures
+returns-4 c = c .before .before .before .before .judge-short .ensures
 
-slice-aggregate-decided-2 : tie.Need-slice-aggregate-decided-2
-slice-aggregate-decided-2 c = search needs
-
-decided-requires-2 : tie.Need-decided-requires-2
-decided-requires-2 c κs = (c .before .before .before .before .if3 .left, omega arith, record { bytes = c .before .before .before .before .before .before .if1 .left; places = c .before .before .before .before .before .if2 .left })
+judge-long-requires : tie.Need-judge-long-requires
+judge-long-requires c κs = (c .before .before .before .if3 .left, record { bytes = c .before .before .before .before .before .if1 .left; places = c .before .before .before .before .if2 .left })
 
 same-length-3 : tie.Need-same-length-3
 same-length-3 c = search needs
@@ -57,7 +51,7 @@ same-length-4 : tie.Need-same-length-4
 same-length-4 c = search needs
 
 returns-5 : tie.Need-returns-5
-returns-5 c = c .before .before .before .before .before .decided2 .ensures
+returns-5 c = c .before .before .before .before .judge-long .ensures
 
 pub judge-spec : {M : Type 1} → statement M
 judge-spec =
@@ -69,13 +63,11 @@ judge-spec =
     returns-2
     refuse-requires-3
     returns-3
-    slice-aggregate-decided
-    decided-requires
+    judge-short-requires
     same-length
     same-length-2
     returns-4
-    slice-aggregate-decided-2
-    decided-requires-2
+    judge-long-requires
     same-length-3
     same-length-4
     returns-5)

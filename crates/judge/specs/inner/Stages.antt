@@ -67,6 +67,11 @@ abbrev pub BeforeTimes : Untimed → Asked → (x atoms xs ys : List ℕ) → Li
 BeforeTimes (untimed.Stable m last) a x atoms xs ys ks = Upheld a m (last .0) x atoms xs ys ks
 BeforeTimes (untimed.Refused f) a x atoms xs ys ks = (b : Rooms) → Sized (b .room) (b .cycle) → Judged a b (refusing b (number (f .kind)) (f .place))
 
+-- that, of something that was asked
+pub record Foregone (u : Untimed) (x atoms xs ys : List ℕ) (ks : List ℤ) : Type 0 where
+  pub asked : Asked
+  pub so : BeforeTimes u asked x atoms xs ys ks
+
 -- ---- the differences in force
 
 -- an atom to 4,096, and a difference within its bounds

@@ -1,8 +1,10 @@
 -- `gather`: before difference i, the first n places have those of the first i whose atom is marked, and the places from i on are as they were.
 use Prim.Native.Nat.{_-_}
+use mathlib.Core.Path.{sym, _∙_}
 use native.Mathlib.Omega.{arith}
 use borrow.Author.Needs.{needs}
-use Rattle.judge.proofs.Gathering.{Going, going-start, going-small, going-pass, going-take, going-end}
+use borrow.Author.Tests.{not-true, not-false}
+use Rattle.judge.proofs.Gathering.{Going, going-start, going-pass, going-take, going-end}
 use Rattle.judge.proofs.timed.gather.Statement.{statement}
 use Rattle.judge.proofs.timed.gather.Tie as tie
 
@@ -13,7 +15,7 @@ abbrev μ-loop : tie.MeasureT-loop
 μ-loop atoms₀ xs₀ ys₀ ks₀ m x n₀ i₀ atoms xs ys ks n i = m - i
 
 loop-holds : tie.Need-loop-holds Inv-loop μ-loop
-loop-holds c = going-start _ _ _ _ _ _ (c .pre .0)
+loop-holds c = going-start _ _ _ _ _ _ (c .before .before .before .before .pre)
 
 add-i : tie.Need-add-i Inv-loop μ-loop
 add-i c = search needs
@@ -24,17 +26,14 @@ mul-a c = search needs
 slice-read-a : tie.Need-slice-read-a Inv-loop μ-loop
 slice-read-a c = search needs
 
-cast-at : tie.Need-cast-at Inv-loop μ-loop
-cast-at c = omega (arith, c .slice-known .given (c .before .before .loop .i))
-
-shared-slice-read-if1 : tie.Need-shared-slice-read-if1 Inv-loop μ-loop
-shared-slice-read-if1 c = omega (arith, going-small _ _ _ _ _ _ _ _ _ _ _ _ (c .before .before .before .loop .inv) (c .before .before .loop-test .taken) (c .before .before .before .before .pre .0), c .before .before .before .before .pre .1 .places)
+holds-requires : tie.Need-holds-requires Inv-loop μ-loop
+holds-requires c κs = search needs
 
 loop-less : tie.Need-loop-less Inv-loop μ-loop
 loop-less c = search needs
 
 loop-again : tie.Need-loop-again Inv-loop μ-loop
-loop-again c = going-pass _ _ _ _ _ _ _ _ _ _ _ _ (c .before .before .before .before .loop .inv) (c .before .before .before .loop-test .taken) (c .if1 .taken)
+loop-again c = going-pass _ _ _ _ _ _ _ _ _ _ _ _ (c .before .before .before .before .loop .inv) (c .before .before .before .loop-test .taken) (sym (c .before .holds .ensures) ∙ not-true _ (c .if1 .taken))
 
 mul-u : tie.Need-mul-u Inv-loop μ-loop
 mul-u c = search needs
@@ -85,7 +84,7 @@ loop-less-2 : tie.Need-loop-less-2 Inv-loop μ-loop
 loop-less-2 c = search needs
 
 loop-again-2 : tie.Need-loop-again-2 Inv-loop μ-loop
-loop-again-2 c = going-take _ _ _ _ _ _ _ _ _ _ _ _ (c .before .before .before .before .before .before .before .loop .inv) (c .before .before .before .before .before .before .loop-test .taken) (c .before .before .before .before .before .before .before .before .pre .0 .few) (c .before .before .before .if1 .left) _ (search needs)
+loop-again-2 c = going-take _ _ _ _ _ _ _ _ _ _ _ _ (c .before .before .before .before .before .before .before .loop .inv) (c .before .before .before .before .before .before .loop-test .taken) (sym (c .before .before .before .before .holds .ensures) ∙ not-false _ (c .before .before .before .if1 .left)) _ (search needs)
 
 same-length : tie.Need-same-length Inv-loop μ-loop
 same-length c = c .before .loop .inv .alike .for-atoms
@@ -112,8 +111,7 @@ gather-spec =
     add-i
     mul-a
     slice-read-a
-    cast-at
-    shared-slice-read-if1
+    holds-requires
     loop-less
     loop-again
     mul-u

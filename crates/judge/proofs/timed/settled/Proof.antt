@@ -29,7 +29,7 @@ written-requires : tie.Need-written-requires
 written-requires c κs =
     let pre = c .before .before .before .before .before .before .before .before .before .before .before .before .before .before .before .before .before .pre in
     let decide = c .before .before .before .before .before .before .before .decide in
-    earliest-writable _ _ _ _ (pre .0 .0) _ _ _ _ (times-of _ _ _ _ _ _ _ (decide .ensures) (c .before .before .enum-told .given .1) .earliest) (pre .0 .1) (decide .kept .1 .1 .1 .1 .0 ∙ length-replicate {A = ℕ} termPlaces 0) (pre .1 .0) (pre .1 .1 .bytes)
+    earliest-writable _ _ _ _ (pre .0 .0) _ _ _ _ (times-of _ _ _ _ _ _ _ (decide .ensures) (c .before .before .enum-told .given .1) .earliest) (pre .0 .1) (decide .kept .1 .1 .1 .1 .1 .0 ∙ length-replicate {A = ℕ} termPlaces 0) (pre .1 .0) (pre .1 .1 .bytes)
 
 same-length : tie.Need-same-length
 same-length c = search needs

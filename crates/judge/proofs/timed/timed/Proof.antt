@@ -5,7 +5,7 @@ use native.Mathlib.Omega.{arith}
 use lib.ListN.{length-replicate}
 use Rattle.faults.specs.inner.Places.{termPlaces}
 use Rattle.terms.proofs.Marking.{marks-zeros}
-use Rattle.judge.proofs.Blank.{part-long, still-roomy}
+use Rattle.judge.proofs.Blank.{part-long, still-within}
 use Rattle.judge.proofs.Gathering.{gathered-labelled}
 use Rattle.judge.proofs.Settling.{settled-timed}
 use borrow.Author.Needs.{needs}
@@ -18,50 +18,50 @@ slice-aggregate-mark-names c = search needs
 mark-names-requires : tie.Need-mark-names-requires
 mark-names-requires c κs =
     let f = c .before .before .before .before .before .before .before .before .before .pre .0 .0 in
-    (omega (arith, f .few, f .roomy .for-xs), omega (arith, f .few, f .roomy .for-ys), marks-zeros termPlaces)
+    (f .roomy .in-xs, f .roomy .in-ys, marks-zeros termPlaces)
 
 gather-requires : tie.Need-gather-requires
-gather-requires c κs = c .before .before .before .before .before .before .before .before .before .before .before .before .before .before .before .pre .0
+gather-requires c κs = c .before .before .before .before .before .before .before .before .before .before .before .before .before .before .before .pre .0 .0
 
 slice-reshare-prefix-settled : tie.Need-slice-reshare-prefix-settled
 slice-reshare-prefix-settled c =
     let f = c .before .before .before .before .before .before .before .before .before .before .before .before .before .before .before .before .before .before .before .before .before .before .before .pre .0 .0 in
-    omega (arith, c .before .before .before .before .before .before .before .gather .kept .0, c .before .before .before .before .before .before .before .gather .ensures .few, f .few, f .roomy .for-atoms)
+    omega (arith, c .before .before .before .before .before .before .before .gather .kept .0, c .before .before .before .before .before .before .before .gather .ensures .few, f .roomy .in-atoms)
 
 slice-aggregate-settled : tie.Need-slice-aggregate-settled
 slice-aggregate-settled c =
     let f = c .before .before .before .before .before .before .before .before .before .before .before .before .before .before .before .before .before .before .before .before .before .before .before .before .pre .0 .0 in
-    part-long _ _ _ (c .before .before .before .before .before .before .before .before .gather .kept .0) (f .roomy .for-atoms) (c .before .before .before .before .before .before .before .before .gather .ensures .few) (f .few)
+    part-long _ _ _ (c .before .before .before .before .before .before .before .before .gather .kept .0) (f .roomy .in-atoms) (c .before .before .before .before .before .before .before .before .gather .ensures .few)
 
 slice-reshare-prefix-settled-2 : tie.Need-slice-reshare-prefix-settled-2
 slice-reshare-prefix-settled-2 c =
     let f = c .before .before .before .before .before .before .before .before .before .before .before .before .before .before .before .before .before .before .before .before .before .before .before .before .pre .0 .0 in
-    omega (arith, c .before .before .before .before .before .before .before .before .gather .kept .1 .0, c .before .before .before .before .before .before .before .before .gather .ensures .few, f .few, f .roomy .for-xs)
+    omega (arith, c .before .before .before .before .before .before .before .before .gather .kept .1 .0, c .before .before .before .before .before .before .before .before .gather .ensures .few, f .roomy .in-xs)
 
 slice-aggregate-settled-2 : tie.Need-slice-aggregate-settled-2
 slice-aggregate-settled-2 c =
     let f = c .before .before .before .before .before .before .before .before .before .before .before .before .before .before .before .before .before .before .before .before .before .before .before .before .before .pre .0 .0 in
-    part-long _ _ _ (c .before .before .before .before .before .before .before .before .before .gather .kept .1 .0) (f .roomy .for-xs) (c .before .before .before .before .before .before .before .before .before .gather .ensures .few) (f .few)
+    part-long _ _ _ (c .before .before .before .before .before .before .before .before .before .gather .kept .1 .0) (f .roomy .in-xs) (c .before .before .before .before .before .before .before .before .before .gather .ensures .few)
 
 slice-reshare-prefix-settled-3 : tie.Need-slice-reshare-prefix-settled-3
 slice-reshare-prefix-settled-3 c =
     let f = c .before .before .before .before .before .before .before .before .before .before .before .before .before .before .before .before .before .before .before .before .before .before .before .before .before .pre .0 .0 in
-    omega (arith, c .before .before .before .before .before .before .before .before .before .gather .kept .1 .1 .0, c .before .before .before .before .before .before .before .before .before .gather .ensures .few, f .few, f .roomy .for-ys)
+    omega (arith, c .before .before .before .before .before .before .before .before .before .gather .kept .1 .1 .0, c .before .before .before .before .before .before .before .before .before .gather .ensures .few, f .roomy .in-ys)
 
 slice-aggregate-settled-3 : tie.Need-slice-aggregate-settled-3
 slice-aggregate-settled-3 c =
     let f = c .before .before .before .before .before .before .before .before .before .before .before .before .before .before .before .before .before .before .before .before .before .before .before .before .before .before .pre .0 .0 in
-    part-long _ _ _ (c .before .before .before .before .before .before .before .before .before .before .gather .kept .1 .1 .0) (f .roomy .for-ys) (c .before .before .before .before .before .before .before .before .before .before .gather .ensures .few) (f .few)
+    part-long _ _ _ (c .before .before .before .before .before .before .before .before .before .before .gather .kept .1 .1 .0) (f .roomy .in-ys) (c .before .before .before .before .before .before .before .before .before .before .gather .ensures .few)
 
 slice-reshare-prefix-settled-4 : tie.Need-slice-reshare-prefix-settled-4
 slice-reshare-prefix-settled-4 c =
     let f = c .before .before .before .before .before .before .before .before .before .before .before .before .before .before .before .before .before .before .before .before .before .before .before .before .before .before .pre .0 .0 in
-    omega (arith, c .before .before .before .before .before .before .before .before .before .before .gather .kept .1 .1 .1 .0, c .before .before .before .before .before .before .before .before .before .before .gather .ensures .few, f .few, f .roomy .for-ks)
+    omega (arith, c .before .before .before .before .before .before .before .before .before .before .gather .kept .1 .1 .1 .0, c .before .before .before .before .before .before .before .before .before .before .gather .ensures .few, f .roomy .in-ks)
 
 slice-aggregate-settled-4 : tie.Need-slice-aggregate-settled-4
 slice-aggregate-settled-4 c =
     let f = c .before .before .before .before .before .before .before .before .before .before .before .before .before .before .before .before .before .before .before .before .before .before .before .before .before .before .before .pre .0 .0 in
-    part-long _ _ _ (c .before .before .before .before .before .before .before .before .before .before .before .gather .kept .1 .1 .1 .0) (f .roomy .for-ks) (c .before .before .before .before .before .before .before .before .before .before .before .gather .ensures .few) (f .few)
+    part-long _ _ _ (c .before .before .before .before .before .before .before .before .before .before .before .gather .kept .1 .1 .1 .0) (f .roomy .in-ks) (c .before .before .before .before .before .before .before .before .before .before .before .gather .ensures .few)
 
 slice-aggregate-settled-5 : tie.Need-slice-aggregate-settled-5
 slice-aggregate-settled-5 c = search needs
@@ -71,7 +71,7 @@ settled-requires c κs =
     let p = c .before .before .before .before .before .before .before .before .before .before .before .before .before .before .before .before .before .before .before .before .before .before .before .before .before .before .before .before .before .before .pre in
     let g = c .before .before .before .before .before .before .before .before .before .before .before .before .before .before .gather in
     let k = g .kept in
-    ((gathered-labelled _ _ _ _ _ (p .0 .0) _ (p .0 .1) _ _ _ _ _ (g .ensures) (still-roomy (p .0 .0 .roomy) (k .0) (k .1 .0) (k .1 .1 .0) (k .1 .1 .1 .0)), c .before .before .before .before .before .before .before .before .before .before .before .before .before .before .before .before .before .before .before .before .mark-names .kept .1 .1 .1 .0 ∙ length-replicate {A = ℕ} termPlaces 0), (p .0 .1, p .1))
+    ((gathered-labelled _ _ _ _ _ (p .0 .0) _ (p .0 .1) _ _ _ _ _ (g .ensures) (still-within (p .0 .0 .roomy) (g .ensures .few) (k .0) (k .1 .0) (k .1 .1 .0) (k .1 .1 .1 .0)), c .before .before .before .before .before .before .before .before .before .before .before .before .before .before .before .before .before .before .before .before .mark-names .kept .1 .1 .1 .0 ∙ length-replicate {A = ℕ} termPlaces 0), (p .0 .1, p .1))
 
 same-length : tie.Need-same-length
 same-length c = search needs
@@ -97,7 +97,7 @@ returns c =
     let g = c .before .before .before .before .before .before .before .before .before .before .before .before .before .before .before .before .before .before .before .gather in
     let names = c .before .before .before .before .before .before .before .before .before .before .before .before .before .before .before .before .before .before .before .before .before .before .before .before .before .mark-names in
     let settled = c .before .before .before .before .settled in
-    λ ls h. settled-timed ls _ _ _ _ _ h _ (p .0 .1) _ _ _ _ _ (g .ensures) _ (names .ensures) _ _ _ (sym (part-long _ _ _ (g .kept .1 .1 .1 .0) (p .0 .0 .roomy .for-ks) (g .ensures .few) (p .0 .0 .few))) (settled .ensures)
+    λ ls h. settled-timed ls _ _ _ _ _ h _ (p .0 .1) _ _ _ _ _ (g .ensures) _ (names .ensures) _ _ _ (sym (part-long _ _ _ (g .kept .1 .1 .1 .0) (p .0 .0 .roomy .in-ks) (g .ensures .few))) (settled .ensures)
 
 pub timed-spec : {M : Type 1} → statement M
 timed-spec =
