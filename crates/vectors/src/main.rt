@@ -21,6 +21,9 @@ use timetable::Time;
 // The terms whose times are asked of each timetable: those below.
 const ASKED: u32 = 16;
 
+// The length of the shortest text that is too long.
+const TOO_LONG: usize = LONGEST_TEXT + 1;
+
 // Prints a space and a number.
 fn print_next(n: u64) {
     io::write_all(STDOUT_FILENO, b" ");
@@ -151,17 +154,24 @@ fn put_ends(text: &mut [u8], n: usize)
 fn print_comment(n: usize)
     requires { ⌜ (16 ≤ n) × (n ≤ 60001) ⌝ }
 {
-    let mut text = [99u8; 60001];
+    let mut text = [99u8; TOO_LONG];
     put_ends(&mut text, n);
     print_start(&text, n);
 }
 
-// Judges both texts.
-fn print_long() {
-    print_name(b"long-60000");
-    print_comment(LONGEST_TEXT);
-    print_name(b"long-60001");
-    print_comment(60001);
+// Prints the name of a text of n bytes.
+fn print_length(n: usize) {
+    io::write_all(STDOUT_FILENO, b"long-");
+    io::print_decimal(STDOUT_FILENO, n as u64);
+    io::write_all(STDOUT_FILENO, b"\n");
+}
+
+// Names and judges a text of n bytes.
+fn print_long(n: usize)
+    requires { ⌜ (16 ≤ n) × (n ≤ 60001) ⌝ }
+{
+    print_length(n);
+    print_comment(n);
 }
 
 // Runs the pair at a place of a container, and gives the place of the next; the end where no whole pair stands.
@@ -194,5 +204,6 @@ fn main() {
     let mut buf = [0u8; 262144];
     let n = load(b"plans", &mut buf);
     run(&buf[..n]);
-    print_long();
+    print_long(LONGEST_TEXT);
+    print_long(TOO_LONG);
 }
