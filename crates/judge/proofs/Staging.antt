@@ -1,16 +1,18 @@
 -- How the stages follow one another: what one stage found, in the words of the next. Assumes nothing.
-use Prim.Native.Nat.{ℕ, _+_, _≤_}
+use Prim.Native.Nat.{ℕ, _+_, _≤_, _<_}
 use mathlib.Core.Path.{_≡_, refl, sym, ap, _∙_, fun-ext}
-use mathlib.Core.Bool.{false, _&&_, not}
+use mathlib.Core.Bool.{Bool, true, false, _&&_, not}
 use mathlib.Core.List.{List, [], _∷_}
 use native.Mathlib.Omega.{arith}
-use borrow.Author.Tests.{ne-eqb, le-ltb}
+use borrow.Author.Tests.{ne-eqb, le-ltb, lt-ltb, ltb-false}
+use lib.Dec.{ltb}
 use lib.IntN.{ℤ}
 use lib.ListN.{length, take}
 use lib.Seq.{length-take-le}
 use Rattle.faults.specs.Limits.{cycleRoom, longestText, tableRoom}
 use Rattle.faults.specs.inner.Places.{atomPlaces}
-use Rattle.faults.specs.Answer.{got, refused}
+use Rattle.basics.specs.Bools.{pick}
+use Rattle.faults.specs.Answer.{Answer, got, refused}
 use Rattle.basics.specs.Lists.{among}
 use Rattle.basics.specs.inner.Bitmaps.{isMarked, markedFrom}
 use Rattle.basics.proofs.Bitmaps.{marked-holds, marked-front}
@@ -59,6 +61,26 @@ above-zero low (v ∷ vs) h = rw (ne-eqb 0 v (λ e. omega (arith, h .0))) (above
 -- no candidate marks atom 0
 zero-unmarked : (s x : List ℕ) → candidate s ≡ got (atomsOf x) → isMarked x 0 ≡ false
 zero-unmarked s x e = sym (marked-holds x 0) ∙ above-zero 0 (atomsOf x) (candidate-ascending s (atomsOf x) e)
+
+-- 1 refuses what was asked, or the rooms are long enough
+pub lent-refuses : (a : Asked) (b : Rooms) {k p : ℕ} → refused k p ≡ lent b → Judged a b (refusing b k p)
+unfolding readable
+lent-refuses a b {k} {p} e = unreadable k p (rw (← e)) refl
+
+pub lent-sized : (b : Rooms) → got tt ≡ lent b → Sized (b .room) (b .cycle)
+unfolding lent
+lent-sized b = go (ltb (length (b .room)) tableRoom) refl (ltb (length (b .cycle)) cycleRoom) refl
+  where
+    go : (s : Bool) → ltb (length (b .room)) tableRoom ≡ s → (t : Bool) → ltb (length (b .cycle)) cycleRoom ≡ t
+        → _≡_ {A = Answer (Unit {0})} (got tt) (pick s (refused 1 tableRoom) (pick t (refused 1 cycleRoom) (got tt))) → Sized (b .room) (b .cycle)
+    go true f t g e = let z : _≡_ {A = ℕ} 0 1 = cc in absurd (omega arith)
+    go false f true g e = let z : _≡_ {A = ℕ} 0 1 = cc in absurd (omega arith)
+    go false f false g e = record { bytes = ltb-false _ _ f; places = ltb-false _ _ g }
+
+-- 2 does
+pub overlong : (a : Asked) (b : Rooms) → Sized (b .room) (b .cycle) → longestText < length (a .text) → Judged a b (refusing b 2 longestText)
+unfolding readable lent legible
+overlong a b z l = unreadable 2 longestText (rw (le-ltb (length (b .room)) tableRoom (z .bytes), le-ltb (length (b .cycle)) cycleRoom (z .places), lt-ltb longestText (length (a .text)) l)) refl
 
 module _ (a : Asked) (b : Rooms) (z : Sized (b .room) (b .cycle)) (h : length (a .text) ≤ longestText) where
   -- 3 to 5 refuse what was asked

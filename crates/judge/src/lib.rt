@@ -7,10 +7,10 @@ ghost use Rattle.faults.specs.inner.Places.{shortText};
 ghost use Rattle.aspif.specs.inner.Bitmap.{Blank};
 ghost use Rattle.terms.specs.inner.Values.{Roomy};
 ghost use Rattle.timetable.specs.Times.{asTime, timeOf};
-ghost use Rattle.judge.specs.Plan.{Asked, asked};
+ghost use Rattle.judge.specs.Plan.{Asked, asked, lent};
 ghost use Rattle.judge.specs.Judged.{Judged};
 ghost use Rattle.judge.specs.Values.{rooms, result};
-ghost use Rattle.judge.specs.inner.Stages.{Sized, BeforeTimes, Foregone};
+ghost use Rattle.judge.specs.inner.Stages.{Sized, BeforeTimes, Foregone, asChecked};
 use aspif::candidate::Marked;
 use aspif::candidate::candidate;
 use faults::ATOM_PLACES;
@@ -49,6 +49,25 @@ fn refuse(kind: Kind, place: usize) -> Verdict
     ensures { λ r. ⌜ r ≡ Verdict.Refused (record { kind = kind; place = place }) ⌝ }
 {
     Verdict::Refused(Refusal { kind, place })
+}
+
+// 1, where a room is too short, the timetable room first.
+fn lent(room: &[u8], cycle: &[u32]) -> Step
+    ensures { λ r. ⌜ asChecked r ≡ lent (rooms (now (room .entry)) (now (cycle .entry))) ⌝ }
+{
+    if room.len() < TABLE_ROOM {
+        return Step::Refused(Refusal {
+            kind: Kind::Room,
+            place: TABLE_ROOM,
+        });
+    }
+    if cycle.len() < CYCLE_ROOM {
+        return Step::Refused(Refusal {
+            kind: Kind::Room,
+            place: CYCLE_ROOM,
+        });
+    }
+    Step::Good(0)
 }
 
 // What a plan and its candidate come to before the times: refused; or stable, with the count of differences and the last atom.
@@ -127,11 +146,15 @@ fn ended(
     }
 }
 
-// 3 to 11 or the timetable, of a short text: its tape and slices are short too.
+// The verdict on a short text: its tape and slices are short too, so it has a small frame.
 pub fn judge_short(text: &[u8], cand: &[u8], room: &mut [u8], cycle: &mut [u32]) -> Verdict
-    requires { ⌜ (length (now text) ≤ shortText) × Sized (now room) (now cycle) ⌝ }
+    requires { ⌜ length (now text) ≤ shortText ⌝ }
     ensures { λ r. ⌜ Judged (asked (now (text .entry)) (now (cand .entry))) (rooms (now (room .entry)) (now (cycle .entry))) (result r (now (room .exit)) (now (cycle .exit))) ⌝ }
 {
+    let l = lent(room, cycle);
+    let Step::Good(_) = l else {
+        return Verdict::Refused(l.refusal());
+    };
     let mut tape = [0u32; SHORT_TEXT];
     let mut atoms = [0u32; SHORT_DIFFERENCES];
     let mut xs = [0u32; SHORT_DIFFERENCES];
@@ -151,11 +174,17 @@ pub fn judge_short(text: &[u8], cand: &[u8], room: &mut [u8], cycle: &mut [u32])
     ended(u, &mut atoms, &mut xs, &mut ys, &mut ks, &x, room, cycle)
 }
 
-// 3 to 11 or the timetable, of any text that is not too long.
+// The verdict on any text, with the longest tape.
 pub fn judge_long(text: &[u8], cand: &[u8], room: &mut [u8], cycle: &mut [u32]) -> Verdict
-    requires { ⌜ (length (now text) ≤ longestText) × Sized (now room) (now cycle) ⌝ }
     ensures { λ r. ⌜ Judged (asked (now (text .entry)) (now (cand .entry))) (rooms (now (room .entry)) (now (cycle .entry))) (result r (now (room .exit)) (now (cycle .exit))) ⌝ }
 {
+    let l = lent(room, cycle);
+    let Step::Good(_) = l else {
+        return Verdict::Refused(l.refusal());
+    };
+    if LONGEST_TEXT < text.len() {
+        return refuse(Kind::Long, LONGEST_TEXT);
+    }
     let mut tape = [0u32; LONGEST_TEXT];
     let mut atoms = [0u32; LONG_DIFFERENCES];
     let mut xs = [0u32; LONG_DIFFERENCES];
@@ -179,16 +208,7 @@ pub fn judge_long(text: &[u8], cand: &[u8], room: &mut [u8], cycle: &mut [u32]) 
 pub fn judge(text: &[u8], cand: &[u8], room: &mut [u8], cycle: &mut [u32]) -> Verdict
     ensures { λ r. ⌜ Judged (asked (now (text .entry)) (now (cand .entry))) (rooms (now (room .entry)) (now (cycle .entry))) (result r (now (room .exit)) (now (cycle .exit))) ⌝ }
 {
-    if room.len() < TABLE_ROOM {
-        return refuse(Kind::Room, TABLE_ROOM);
-    }
-    if cycle.len() < CYCLE_ROOM {
-        return refuse(Kind::Room, CYCLE_ROOM);
-    }
-    if LONGEST_TEXT < text.len() {
-        return refuse(Kind::Long, LONGEST_TEXT);
-    }
-    // Two functions, so that the long tape is not in the frame of a short text.
+    // Two functions, so that the longest tape is not in the frame of a short text.
     if text.len() <= SHORT_TEXT {
         return judge_short(text, cand, room, cycle);
     }

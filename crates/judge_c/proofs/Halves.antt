@@ -17,7 +17,7 @@ use Rattle.judge.specs.Values.{asVerdict}
 use Rattle.judge.specs.declared.Verdict.{Verdict}
 use Rattle.judge.specs.declared.Verdict.the-variants.{Accepted, Refused}
 use Rattle.judge_c.specs.Packed.{half, largestHalf, packed, packedTime, packedPart, above, below, unpacked, Halves}
-use Rattle.judge_c.proofs.Packing.{length-fits, place-fits, TimeFits, time-fits}
+use Rattle.judge_c.proofs.Packing.{fits, TimeFits, time-fits}
 
 module _ {A : Type 0} (value : ℕ → A) (fault : (number place : ℕ) → A) where
   -- a value that a half holds
@@ -50,8 +50,8 @@ numbered NotNamed = omega arith
 -- a verdict that the judge may give
 verdict-back : (i : Asked) (b a : Rooms) (v : Verdict) → Judged i b (record { verdict = asVerdict v; rooms = a })
     → unpacked acceptance refusal (packed (asVerdict v)) ≡ asVerdict v
-verdict-back i b a (Accepted n) j = unpacked-value acceptance refusal n (length-fits i j)
-verdict-back i b a (Refused f) j = unpacked-fault acceptance refusal (number (f .kind)) (f .place) (numbered (f .kind)) (place-fits i j)
+verdict-back i b a (Accepted n) j = unpacked-value acceptance refusal n (fits i (Accepted n) j)
+verdict-back i b a (Refused f) j = unpacked-fault acceptance refusal (number (f .kind)) (f .place) (numbered (f .kind)) (fits i (Refused f) j)
 
 -- what the reader of a time answers
 time-back : (u : ℕ) (a : Answer ℕ) → u < half → TimeFits u a → unpacked got refused (packedTime a) ≡ a

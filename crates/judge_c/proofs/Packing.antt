@@ -11,41 +11,25 @@ use Rattle.basics.specs.Bools.{pick}
 use Rattle.faults.specs.Answer.{Answer, got, refused}
 use Rattle.faults.specs.Values.{number}
 use Rattle.faults.specs.declared.Kind.{Kind}
-use Rattle.faults.specs.declared.Refusal.{Refusal}
 use Rattle.faults.specs.declared.Kind.the-variants.{Grammar, Carried, Bounds, Terms, Candidate, Broken}
 use Rattle.timetable.specs.Table.{Record, timesFit, isTable, contentOf as shownIn}
 use Rattle.timetable.specs.Times.{timeAmong, timeOf}
 use Rattle.timetable.proofs.Bounds.{first-time, is-within}
 use Rattle.timetable.proofs.Reading.{passed}
 use Rattle.judge.specs.Plan.{Asked, Rooms}
-use Rattle.judge.specs.Judged.{acceptance, refusal, Judged}
+use Rattle.judge.specs.Judged.{Judged}
 use Rattle.judge.specs.Values.{asVerdict}
 use Rattle.judge.specs.declared.Verdict.{Verdict}
 use Rattle.judge.specs.declared.Verdict.the-variants.{Accepted, Refused}
 use Rattle.judge.specs.Shown.{inText, shown}
 use Rattle.judge.proofs.Parts.{shown-none}
 use Rattle.judge.proofs.Places.{places-bounded}
-use Rattle.judge_c.specs.Packed.{half, largestHalf, packedTime, packedPart, Answers}
+use Rattle.judge_c.specs.Packed.{half, largestHalf, packedTime, packedPart, Fitting}
 
--- an acceptance, with the timetable's length
-pub accepts : {i : Asked} {b a : Rooms} (v : Verdict) {n r : ℕ}
-    → Judged i b (record { verdict = asVerdict v; rooms = a })
-    → v ≡ Accepted n → r ≡ 0 * half + n → Answers i b a r
-accepts v {n} j g e = record { verdict = v; judged = j; value = rw g (omega arith) }
-
--- a refusal, with its number and place
-pub refuses : {i : Asked} {b a : Rooms} (v : Verdict) {f : Refusal} {r : ℕ}
-    → Judged i b (record { verdict = asVerdict v; rooms = a })
-    → v ≡ Refused f → r ≡ number (f .kind) * half + f .place → Answers i b a r
-refuses v j g e = record { verdict = v; judged = j; value = rw g e }
-
--- a timetable's length fits the lower half
-pub length-fits : (i : Asked) {b a : Rooms} {n : ℕ} → Judged i b (record { verdict = acceptance n; rooms = a }) → n < half
-length-fits i {b} j = let h = places-bounded i b _ j in omega arith
-
--- a place fits the lower half
-pub place-fits : (i : Asked) {b a : Rooms} {k p : ℕ} → Judged i b (record { verdict = refusal k p; rooms = a }) → p < half
-place-fits i {b} j = let h = places-bounded i b _ j in omega arith
+-- what the judge may give fits the lower half
+pub fits : (i : Asked) (v : Verdict) {b a : Rooms} → Judged i b (record { verdict = asVerdict v; rooms = a }) → Fitting v
+fits i (Accepted n) {b} j = let h = places-bounded i b _ j in omega arith
+fits i (Refused f) {b} j = let h = places-bounded i b _ j in omega arith
 
 -- a time
 pub times : (a : Answer ℕ) (t r : ℕ) → got t ≡ a → r ≡ 0 * half + t → r ≡ packedTime a

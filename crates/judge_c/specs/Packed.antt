@@ -12,6 +12,7 @@ use Rattle.judge.specs.Plan.{Asked, Rooms}
 use Rattle.judge.specs.Judged.{Judgement, acceptance, refusal, Judged}
 use Rattle.judge.specs.Values.{asVerdict}
 use Rattle.judge.specs.declared.Verdict.{Verdict}
+use Rattle.judge.specs.declared.Verdict.the-variants.{Accepted, Refused}
 use Rattle.judge_c.specs.declared.Named.{Named}
 use Rattle.judge_c.specs.declared.Named.the-variants.{Is, Nothing}
 
@@ -27,6 +28,11 @@ largestHalf = 4294967295
 abbrev pub packed : Judgement → ℕ
 packed (acceptance n) = n
 packed (refusal k p) = k * half + p
+
+-- the lower half holds its length or place
+abbrev pub Fitting : Verdict → Type 0
+Fitting (Accepted n) = n < half
+Fitting (Refused f) = f .place < half
 
 -- 0 above, the time below; or the refusal's number above, its place below, which is 0 or the term asked for
 abbrev pub packedTime : Answer ℕ → ℕ

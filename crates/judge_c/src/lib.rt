@@ -6,10 +6,11 @@ ghost use Rattle.faults.specs.Values.{number};
 ghost use Rattle.timetable.specs.Times.{timeOf};
 ghost use Rattle.judge.specs.Plan.{asked};
 ghost use Rattle.judge.specs.Shown.{shown};
-ghost use Rattle.judge.specs.Values.{rooms};
-ghost use Rattle.judge_c.specs.Packed.{half, largestHalf, packedTime, packedPart, Answers, Found};
+ghost use Rattle.judge.specs.Values.{rooms, asVerdict};
+ghost use Rattle.judge_c.specs.Packed.{half, largestHalf, packed, packedTime, packedPart, Fitting, Answers, Found};
 use faults::Kind;
 use faults::Refusal;
+use faults::SHORT_TEXT;
 use faults::TermNo;
 use judge::Verdict;
 use timetable::Time;
@@ -88,16 +89,41 @@ fn shown_length<'a>(text: &'a [u8], cand: &'a [u8], number: u32, place: u32) -> 
     part.len()
 }
 
-// The verdict: 0 above and the timetable's length below, or the refusal's number above and its place below.
+// A verdict: 0 above and the timetable's length below, or the refusal's number above and its place below.
+fn pack_verdict(verdict: Verdict) -> u64
+    requires { ⌜ Fitting verdict ⌝ }
+    ensures { λ r. ⌜ r ≡ packed (asVerdict verdict) ⌝ }
+{
+    match verdict {
+        Verdict::Accepted(n) => pack(0, n as u32),
+        Verdict::Refused(refusal) => pack_refusal(refusal),
+    }
+}
+
+// The verdict, packed, by the frame that any text needs.
+#[no_mangle]
+pub extern "C" fn plan_judge_long(
+    text: &[u8],
+    cand: &[u8],
+    room: &mut [u8],
+    cycle: &mut [u32],
+) -> u64
+    ensures { λ r. ⌜ Answers (asked (now (text .entry)) (now (cand .entry))) (rooms (now (room .entry)) (now (cycle .entry))) (rooms (now (room .exit)) (now (cycle .exit))) r ⌝ }
+{
+    let a = judge::judge_long(text, cand, room, cycle);
+    pack_verdict(a)
+}
+
+// The verdict, packed; by a small frame where the text is short.
 #[no_mangle]
 pub extern "C" fn plan_judge(text: &[u8], cand: &[u8], room: &mut [u8], cycle: &mut [u32]) -> u64
     ensures { λ r. ⌜ Answers (asked (now (text .entry)) (now (cand .entry))) (rooms (now (room .entry)) (now (cycle .entry))) (rooms (now (room .exit)) (now (cycle .exit))) r ⌝ }
 {
-    let a = judge::judge(text, cand, room, cycle);
-    match a {
-        Verdict::Accepted(n) => pack(0, n as u32),
-        Verdict::Refused(refusal) => pack_refusal(refusal),
+    if text.len() <= SHORT_TEXT {
+        let a = judge::judge_short(text, cand, room, cycle);
+        return pack_verdict(a);
     }
+    plan_judge_long(text, cand, room, cycle)
 }
 
 // The time of a name in a timetable below, with 0 above; or 20 or 21 above and its place below.
