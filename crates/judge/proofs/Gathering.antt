@@ -11,7 +11,6 @@ use lib.Seq.{getD-set-same, getD-set-other, getD-take, length-take-le}
 use Rattle.faults.specs.Limits.{lastAtom}
 use Rattle.basics.specs.inner.Bitmaps.{isMarked}
 use Rattle.aspif.specs.inner.Words.{word}
-use Rattle.terms.specs.Terms.{Stated}
 use Rattle.terms.specs.inner.Tables.{tabulated, heldAt}
 use Rattle.terms.specs.inner.Values.{Within}
 use Rattle.terms.proofs.Turns.{tabulated-same}

@@ -6,7 +6,7 @@ use mathlib.Core.Bool.{Bool, true, false, _&&_, not}
 use mathlib.Core.Option.{Option, some, none}
 use native.Mathlib.Omega.{arith}
 use native.Mathlib.Numerals.{add-one}
-use borrow.Author.Tests.{eq-eqb, ne-eqb, eqb-true, eqb-false}
+use borrow.Author.Tests.{eqb-true, eqb-false}
 use lib.ListN.{length, getD, set}
 use lib.Seq.{getD-set-same, getD-set-other}
 use lib.Dec.{eqb}
@@ -24,7 +24,7 @@ use Rattle.diffs.specs.Diff.{Diff}
 use Rattle.terms.specs.Says.{diffWord, atMost}
 use Rattle.terms.specs.Terms.{defined, allDefined, isString, boundOf, Pair, pairIn, joined, differenceOf, guardUses, Stated, faulty, more}
 use Rattle.terms.specs.inner.Tables.{roleOf, termOf, elementOf, termOn, elementOn, lookIn, elementsIn, takenIn, envOf, differenceIn, statedOn, changed, knownWith, walk, heldAt, tabulated, gather}
-use Rattle.terms.specs.inner.Values.{differenceWords, Roomy, Within, asTurn, Lasting, Turned, RoomFor, Stored}
+use Rattle.terms.specs.inner.Values.{differenceWords, Roomy, asTurn, Lasting, Turned, RoomFor, Stored}
 use Rattle.terms.specs.declared.lines.Turn.{Turn}
 use Rattle.terms.specs.declared.lines.Role.the-variants as role
 use Rattle.terms.specs.declared.lines.Turn.the-variants as turn

@@ -4,8 +4,6 @@ use Rattle.report.specs.Report.{decimal}
 use Rattle.report.proofs.Putting.{put-both, fits-first, fits-second}
 use Rattle.report.proofs.put_next.Statement.{statement}
 use Rattle.report.proofs.put_next.Tie as tie
-use Rattle.report.proofs.put.Reads as put-reads
-use Rattle.report.proofs.put_number.Reads as put-number-reads
 
 slice-aggregate-put : tie.Need-slice-aggregate-put
 slice-aggregate-put c = search needs

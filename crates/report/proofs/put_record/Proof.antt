@@ -3,9 +3,6 @@ use borrow.Author.Needs.{needs}
 use Rattle.report.proofs.Putting.{put-both, fits-first, fits-second}
 use Rattle.report.proofs.put_record.Statement.{statement}
 use Rattle.report.proofs.put_record.Tie as tie
-use Rattle.report.proofs.put.Reads as put-reads
-use Rattle.report.proofs.put_next.Reads as put-next-reads
-use Rattle.report.proofs.put_number.Reads as put-number-reads
 
 wide-requires : tie.Need-wide-requires
 wide-requires c κs = search needs

@@ -3,8 +3,6 @@ use borrow.Author.Needs.{needs}
 use Rattle.report.proofs.Putting.{put-both, fits-first, fits-second}
 use Rattle.report.proofs.put_two.Statement.{statement}
 use Rattle.report.proofs.put_two.Tie as tie
-use Rattle.report.proofs.put.Reads as put-reads
-use Rattle.report.proofs.put_next.Reads as put-next-reads
 
 put-next-requires : tie.Need-put-next-requires
 put-next-requires c κs = fits-first _ (fits-first _ (c .before .before .pre))

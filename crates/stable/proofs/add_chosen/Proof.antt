@@ -1,7 +1,6 @@
 -- `add_chosen`: the atoms marked and those still to come stay the same set. Assumes nothing.
 use mathlib.Core.Logic.{⊎-elim}
 use native.Mathlib.Omega.{arith}
-use borrow.Author.Needs.{needs}
 use Rattle.stable.proofs.Chosen.{Walk, start, here, atom, more, take, leave, end}
 use Rattle.stable.proofs.Lines.{read-word}
 use Rattle.stable.proofs.add_chosen.Statement.{statement}

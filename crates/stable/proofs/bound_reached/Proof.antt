@@ -1,7 +1,6 @@
 -- `bound_reached`: what is left of the premises reaches what is due exactly if all of them reach the bound. Assumes nothing.
 use mathlib.Core.Logic.{⊎-elim}
 use native.Mathlib.Omega.{arith}
-use borrow.Author.Needs.{needs}
 use Rattle.stable.proofs.Weighing.{Walk, none, start, here, atom, pass, close, take, end}
 use Rattle.stable.proofs.Lines.{read-word}
 use Rattle.stable.proofs.bound_reached.Statement.{statement}

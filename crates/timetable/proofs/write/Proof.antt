@@ -1,14 +1,14 @@
 -- `timetable::write` meets its contract: records and atoms are each stored where the part before them ends, and the header last.
 -- The longest table fits the room, so the parts begin and end within it.
 use borrow.Author.Needs.{needs}
-use Prim.Native.Nat.{_+_, _-_, _*_}
+use Prim.Native.Nat.{_+_, _-_}
 use mathlib.Core.Path.{_≡_, ap, _∙_}
 use mathlib.Core.List.{_++_}
 use native.Mathlib.Omega.{arith}
 use lib.ListN.{length, take, drop}
 use lib.Seq.{length-sets}
 use Rattle.basics.specs.inner.Bitmaps.{markedFrom}
-use Rattle.timetable.specs.Table.{recordsOf, recordBytes, atomBytes, headerLength, headerBytes}
+use Rattle.timetable.specs.Table.{recordsOf, recordBytes, atomBytes, headerLength}
 use Rattle.timetable.specs.inner.Given.{timeAt}
 use Rattle.timetable.proofs.Marks.{few-marked}
 use Rattle.timetable.proofs.Stores.{part-stored}

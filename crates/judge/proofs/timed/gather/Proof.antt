@@ -1,7 +1,6 @@
 -- `gather`: before difference i, the first n places have those of the first i whose atom is marked, and the places from i on are as they were.
 use Prim.Native.Nat.{_-_}
 use mathlib.Core.Path.{sym, _∙_}
-use native.Mathlib.Omega.{arith}
 use borrow.Author.Needs.{needs}
 use borrow.Author.Tests.{not-true, not-false}
 use Rattle.judge.proofs.Gathering.{Going, going-start, going-pass, going-take, going-end}
