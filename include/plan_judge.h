@@ -45,6 +45,13 @@ uint64_t plan_judge(const uint8_t *text, size_t text_length,
                     uint8_t *room, size_t room_length,
                     uint32_t *cycle, size_t cycle_length);
 
+/* The same answer, with the stack that any text needs for every text. plan_judge calls it for texts of more than 2,000
+ * bytes; it is a function of its own so that a short text gets by with less. */
+uint64_t plan_judge_long(const uint8_t *text, size_t text_length,
+                         const uint8_t *cand, size_t cand_length,
+                         uint8_t *room, size_t room_length,
+                         uint32_t *cycle, size_t cycle_length);
+
 /* The time of a term number in a timetable. Pass exactly the length that plan_judge gave: with another, as that of the
  * whole room, the slice is no timetable.
  * Found: 0 above, the time below. Else 20 above and 0 below (the slice is no timetable), or 21 above and the term

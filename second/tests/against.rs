@@ -68,6 +68,7 @@ impl Both {
             rooms.1.copy_from_slice(&self.marked.1);
         }
         let got = proved::judge(text, cand, &mut self.proved.0, &mut self.proved.1);
+        self.compare_frames(text, cand, got);
         let wanted = second::judge(text, cand, &mut self.second.0, &mut self.second.1);
         match (got, wanted) {
             (Verdict::Refused(Refusal { number: 10, place }), Verdict::Refused(Refusal { number: 10, .. })) => {
@@ -85,6 +86,13 @@ impl Both {
             Verdict::Refused(r) => compare_showing(text, cand, r.number, r.place),
         }
         got
+    }
+
+    // The large frame gives the same verdict and the same rooms.
+    fn compare_frames(&self, text: &[u8], cand: &[u8], got: Verdict) {
+        let mut rooms = self.marked.clone();
+        assert_eq!(proved::judge_long(text, cand, &mut rooms.0, &mut rooms.1), got, "{}", pasted(text, cand));
+        assert!(rooms == self.proved, "rooms of the large frame\n{}", pasted(text, cand));
     }
 
     // The list is a right one, and nothing else has changed.

@@ -2,8 +2,21 @@
 
 use crate::judge::refusal::{Refusal, Verdict};
 
+/// A function that judges: a text, a candidate, a timetable room and a cycle room, each by its start and length.
+type Judge = unsafe extern "C" fn(*const u8, usize, *const u8, usize, *mut u8, usize, *mut u32, usize) -> u64;
+
 extern "C" {
     fn plan_judge(
+        text: *const u8,
+        text_length: usize,
+        cand: *const u8,
+        cand_length: usize,
+        room: *mut u8,
+        room_length: usize,
+        cycle: *mut u32,
+        cycle_length: usize,
+    ) -> u64;
+    fn plan_judge_long(
         text: *const u8,
         text_length: usize,
         cand: *const u8,
@@ -29,11 +42,11 @@ fn halves(answer: u64) -> (u32, u32) {
     ((answer >> 32) as u32, answer as u32)
 }
 
-/// The proved judge's verdict on a text and a candidate, with both rooms.
-pub fn judge(text: &[u8], cand: &[u8], room: &mut [u8], cycle: &mut [u32]) -> Verdict {
+// The verdict by one of the two functions that judge.
+fn judged_by(judge: Judge, text: &[u8], cand: &[u8], room: &mut [u8], cycle: &mut [u32]) -> Verdict {
     // SAFETY: each pointer goes with its slice's length, and the rooms are borrowed alone.
     let answer = unsafe {
-        plan_judge(
+        judge(
             text.as_ptr(),
             text.len(),
             cand.as_ptr(),
@@ -48,6 +61,16 @@ pub fn judge(text: &[u8], cand: &[u8], room: &mut [u8], cycle: &mut [u32]) -> Ve
         (0, length) => Verdict::Accepted(length),
         (number, place) => Verdict::Refused(Refusal { number, place }),
     }
+}
+
+/// The proved judge's verdict on a text and a candidate, with both rooms.
+pub fn judge(text: &[u8], cand: &[u8], room: &mut [u8], cycle: &mut [u32]) -> Verdict {
+    judged_by(plan_judge, text, cand, room, cycle)
+}
+
+/// The same, with the large frame for every text.
+pub fn judge_long(text: &[u8], cand: &[u8], room: &mut [u8], cycle: &mut [u32]) -> Verdict {
+    judged_by(plan_judge_long, text, cand, room, cycle)
 }
 
 /// The time of a term in a timetable, by the proved judge.
