@@ -1,37 +1,33 @@
--- Laws of digits and of their value, one step at a place of a field. Assumes nothing.
-use Prim.Native.Nat.{ℕ, suc, _+_, _-_, _*_, _≤_, _<_}
-use mathlib.Core.Path.{_≡_, refl, sym}
+-- Laws of digits, of their value, and of the fields that are naturals. Assumes nothing.
+use Prim.Native.Nat.{ℕ, suc, _+_, _-_, _*_, _≤_, _<_, min}
+use mathlib.Core.Path.{_≡_, refl, sym, ap, _∙_}
 use mathlib.Core.List.{List, [], _∷_}
-use mathlib.Core.Bool.{Bool, true, false, _&&_}
-use borrow.Author.Tests.{eq-eqb, ne-eqb, eqb-true, leb-true}
+use mathlib.Core.Bool.{Bool, true, false, not, _&&_}
+use borrow.Author.Tests.{eq-eqb, ne-eqb, eqb-true, le-leb, leb-true, leb-false}
 use lib.Dec.{eqb, leb}
 use native.Mathlib.Omega.{arith}
-use native.Mathlib.Numerals.{add-one}
-use lib.ListN.{length, getD, drop, drop-of-length-le}
-use lib.Seq.{drop-cons}
+use lib.ListN.{length, getD, drop}
 use Rattle.basics.specs.Bools.{pick}
-use Rattle.fields.specs.Fields.{zeroDigit, nineDigit, allDigits, isDigit, value, isNatural}
+use Rattle.fields.specs.Fields.{space, feed, isSeparator, upTo, zeroDigit, nineDigit, isEmpty, allDigits, isDigit, value, isNatural}
+use Rattle.fields.specs.inner.Digits.{noDigit, digitsAt}
+use Rattle.fields.proofs.Runs.{run-out, run-stop, run-more}
+
+-- ---- the digits at a place, one step of them
 
 module _ (s : List ℕ) (i : ℕ) where
-  pub digits-out : length s ≤ i → allDigits (drop i s) ≡ true
-  unfolding allDigits
-  digits-out h = rw (drop-of-length-le s h)
+  pub digits-out : length s ≤ i → digitsAt s i ≡ []
+  unfolding digitsAt
+  digits-out h = run-out noDigit s i h
 
-  pub digits-more : i < length s → isDigit (getD s i 0) ≡ true → allDigits (drop i s) ≡ allDigits (drop (i + 1) s)
-  unfolding allDigits
-  digits-more h t = rw (drop-cons s i 0 h, t, add-one)
+  pub digits-stop : i < length s → isDigit (getD s i 0) ≡ false → digitsAt s i ≡ []
+  unfolding digitsAt
+  digits-stop h t = run-stop noDigit s i h (ap not t)
 
-  pub digits-stop : i < length s → isDigit (getD s i 0) ≡ false → allDigits (drop i s) ≡ false
-  unfolding allDigits
-  digits-stop h t = rw (drop-cons s i 0 h, t)
+  pub digits-more : i < length s → isDigit (getD s i 0) ≡ true → digitsAt s i ≡ getD s i 0 ∷ digitsAt s (i + 1)
+  unfolding digitsAt
+  digits-more h t = run-more noDigit s i h (ap not t)
 
-  pub value-out : (v : ℕ) → length s ≤ i → value v (drop i s) ≡ v
-  unfolding value
-  value-out v h = rw (drop-of-length-le s h)
-
-  pub value-more : (v d : ℕ) → i < length s → d ≡ getD s i 0 - zeroDigit → value v (drop i s) ≡ value (v * 10 + d) (drop (i + 1) s)
-  unfolding value
-  value-more v d h e = rw (drop-cons s i 0 h, e, add-one)
+-- ---- their value
 
 -- more digits make no value less
 pub value-grows : (v : ℕ) (bs : List ℕ) → v ≤ value v bs
@@ -39,23 +35,88 @@ unfolding value
 value-grows v [] = omega arith
 value-grows v (b ∷ bs) = omega (arith, value-grows (v * 10 + (b - zeroDigit)) bs)
 
+pub value-none : (v : ℕ) (f : List ℕ) → f ≡ [] → value v f ≡ v
+unfolding value
+value-none v f e = rw e
+
+-- a value that is kept at a bound is kept at it by further digits
+value-kept : (m w : ℕ) (bs : List ℕ) → min (value (min w m) bs) m ≡ min (value w bs) m
+value-kept m w bs = go (leb w m) refl
+  where
+    go : (t : Bool) → leb w m ≡ t → min (value (min w m) bs) m ≡ min (value w bs) m
+    go true q = let e : min w m ≡ w = omega (arith, leb-true w m q) in rw e
+    go false q = omega (arith, leb-false w m q, value-grows (min w m) bs, value-grows w bs)
+
+pub value-more : (m v w b : ℕ) (f bs : List ℕ) → f ≡ b ∷ bs → w ≡ min (v * 10 + (b - zeroDigit)) m → min (value w bs) m ≡ min (value v f) m
+unfolding value
+value-more m v w b f bs e k = rw (e, k) (value-kept m (v * 10 + (b - zeroDigit)) bs)
+
+-- ---- the digits of a field
+
+pub digit-from : (b : ℕ) → isDigit b ≡ true → zeroDigit ≤ b
+digit-from b h = go (leb zeroDigit b) refl h
+  where
+    go : (t : Bool) → leb zeroDigit b ≡ t → t && leb b nineDigit ≡ true → zeroDigit ≤ b
+    go true q e = leb-true zeroDigit b q
+    go false q e = let z : _≡_ {A = ℕ} 0 1 = (cc) in absurd (omega arith)
+
+-- a digit ends no field
+digit-within : (b : ℕ) → isDigit b ≡ true → isSeparator b ≡ false
+digit-within b h = let l = digit-from b h in simp (ne-eqb b space (omega arith), ne-eqb b feed (omega arith))
+
+-- a field is all digits exactly if it ends where its first digits do
+pub digits-end : (l : List ℕ) → isEmpty (upTo isSeparator (drop (length (upTo noDigit l)) l)) ≡ allDigits (upTo isSeparator l)
+unfolding upTo allDigits
+digits-end [] = refl
+digits-end (b ∷ bs) = go (isDigit b) refl (isSeparator b) refl (digits-end bs)
+  where
+    go : (d : Bool) → isDigit b ≡ d → (t : Bool) → isSeparator b ≡ t
+        → isEmpty (upTo isSeparator (drop (length (upTo noDigit bs)) bs)) ≡ allDigits (upTo isSeparator bs)
+        → isEmpty (upTo isSeparator (drop (length (pick (not d) [] (b ∷ upTo noDigit bs))) (b ∷ bs))) ≡ allDigits (pick t [] (b ∷ upTo isSeparator bs))
+    go true p true q i = let e = digit-within b p in let z : _≡_ {A = ℕ} 0 1 = (cc) in absurd (omega arith)
+    go true p false q i = rw p i
+    go false p true q i = rw q
+    go false p false q i = rw (p, q)
+
+-- and then it is these digits
+pub digits-all : (l : List ℕ) → allDigits (upTo isSeparator l) ≡ true → upTo isSeparator l ≡ upTo noDigit l
+unfolding upTo allDigits
+digits-all [] h = refl
+digits-all (b ∷ bs) h = go (isDigit b) refl (isSeparator b) refl (digits-all bs) h
+  where
+    go : (d : Bool) → isDigit b ≡ d → (t : Bool) → isSeparator b ≡ t
+        → (allDigits (upTo isSeparator bs) ≡ true → upTo isSeparator bs ≡ upTo noDigit bs)
+        → allDigits (pick t [] (b ∷ upTo isSeparator bs)) ≡ true → pick t [] (b ∷ upTo isSeparator bs) ≡ pick (not d) [] (b ∷ upTo noDigit bs)
+    go true p true q i h = let e = digit-within b p in let z : _≡_ {A = ℕ} 0 1 = (cc) in absurd (omega arith)
+    go true p false q i h = ap {B = List ℕ} (λ r. b ∷ r) (i (ap (λ t. t && allDigits (upTo isSeparator bs)) (sym p) ∙ h))
+    go false p true q i h = refl
+    go false p false q i h = let z : _≡_ {A = ℕ} 0 1 = (cc) in absurd (omega arith)
+
 -- ---- which fields are naturals
 
-pub natural-empty : (f : List ℕ) → length f ≡ 0 → isNatural f ≡ false
+pub natural-empty : (f : List ℕ) → isEmpty f ≡ true → isNatural f ≡ false
 unfolding isNatural
 natural-empty [] h = refl
-natural-empty (b ∷ bs) h = absurd (omega arith)
+natural-empty (b ∷ bs) h = let z : _≡_ {A = ℕ} 0 1 = (cc) in absurd (omega arith)
 
-pub natural-zero : (f : List ℕ) → (length f ≡ 0 → ⊥) → getD f 0 0 ≡ zeroDigit → isNatural f ≡ eqb (length f) 1
-unfolding isNatural
-natural-zero [] h e = absurd (h refl)
-natural-zero (b ∷ []) h e = rw (eq-eqb _ _ e)
-natural-zero (b ∷ d ∷ bs) h e = rw (eq-eqb _ _ e) (sym (ne-eqb (suc (suc (length bs))) 1 (omega arith)))
+module _ (f : List ℕ) (b : ℕ) (bs : List ℕ) (e : f ≡ b ∷ bs) where
+  pub natural-zero : b ≡ zeroDigit → isNatural f ≡ isEmpty bs
+  unfolding isNatural
+  natural-zero z = rw (e, eq-eqb _ _ z)
 
-pub natural-other : (f : List ℕ) → (length f ≡ 0 → ⊥) → (getD f 0 0 ≡ zeroDigit → ⊥) → isNatural f ≡ allDigits f
-unfolding isNatural
-natural-other [] h n = absurd (h refl)
-natural-other (b ∷ bs) h n = rw (ne-eqb _ _ n)
+  pub natural-other : (b ≡ zeroDigit → ⊥) → isNatural f ≡ allDigits f
+  unfolding isNatural
+  natural-other n = rw (e, ne-eqb _ _ n)
+
+pub natural-digits : (f : List ℕ) → isNatural f ≡ true → allDigits f ≡ true
+unfolding isNatural allDigits
+natural-digits [] h = refl
+natural-digits (b ∷ bs) h = go (eqb b zeroDigit) refl bs h
+  where
+    go : (t : Bool) → eqb b zeroDigit ≡ t → (bs : List ℕ) → pick t (isEmpty bs) (allDigits (b ∷ bs)) ≡ true → allDigits (b ∷ bs) ≡ true
+    go true q [] h = let e = eqb-true b zeroDigit q in simp (le-leb zeroDigit b (omega arith), le-leb b nineDigit (omega arith))
+    go true q (d ∷ ds) h = let z : _≡_ {A = ℕ} 0 1 = (cc) in absurd (omega arith)
+    go false q bs h = h
 
 pub natural-some : (f : List ℕ) → isNatural f ≡ true → 0 < length f
 unfolding isNatural

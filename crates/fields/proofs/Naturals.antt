@@ -1,57 +1,89 @@
 -- Laws of a natural and of a byte at a place of the text: what each way through the code gives. Assumes nothing.
-use Prim.Native.Nat.{ℕ, _+_, _-_, _≤_, _<_, min}
+use Prim.Native.Nat.{ℕ, _+_, _≤_, _<_, min}
 use mathlib.Core.Path.{_≡_, refl, sym, ap, _∙_}
-use mathlib.Core.List.{List}
+use mathlib.Core.List.{List, [], _∷_}
 use mathlib.Core.Bool.{Bool, true, false}
 use borrow.Author.Tests.{eq-eqb, ne-eqb, eqb-true, le-leb, lt-leb, ltb-true, ltb-false}
 use lib.Dec.{eqb, leb, ltb}
 use native.Mathlib.Omega.{arith}
-use lib.ListN.{length, take, drop, length-drop, List·getD-eq-default}
+use lib.ListN.{length, getD, drop, length-drop, List·getD-eq-default}
+use lib.Seq.{drop-drop}
 use Rattle.basics.specs.Bools.{pick}
 use Rattle.fields.specs.Reading.{found, fault}
-use Rattle.fields.specs.Fields.{field, isSeparator, isForbidden, restLength, value, isNatural, natural, byteAt, byte}
-use Rattle.fields.proofs.Runs.{upTo-length, upTo-take}
-use Rattle.fields.proofs.Decimal.{natural-empty, two-digits}
+use Rattle.fields.specs.Fields.{upTo, field, isSeparator, isForbidden, restLength, isEmpty, allDigits, value, isNatural, natural, byteAt, byte}
+use Rattle.fields.specs.inner.Digits.{noDigit, digitsAt}
+use Rattle.fields.proofs.Runs.{run-out, run-stop, run-more, upTo-length}
+use Rattle.fields.proofs.Decimal.{digits-end, digits-all, natural-empty, natural-digits, two-digits}
+
+empty-of : (f : List ℕ) → length f ≡ 0 → isEmpty f ≡ true
+empty-of [] h = refl
+empty-of (b ∷ bs) h = absurd (omega arith)
+
+module _ (s : List ℕ) (at : ℕ) where
+  pub field-out : length s ≤ at → isEmpty (field s at) ≡ true
+  unfolding field
+  field-out h = rw (run-out isSeparator s at h)
+
+  -- no byte of a field stands at a place exactly if a separator does
+  pub field-stop : at < length s → isEmpty (field s at) ≡ isSeparator (getD s at 0)
+  unfolding field
+  field-stop h = go (isSeparator (getD s at 0)) refl
+    where
+      go : (t : Bool) → isSeparator (getD s at 0) ≡ t → isEmpty (upTo isSeparator (drop at s)) ≡ t
+      go true q = rw (run-stop isSeparator s at h q)
+      go false q = rw (run-more isSeparator s at h q)
+
+  pub field-more : isEmpty (field s at) ≡ false → field s at ≡ byteAt s at ∷ field s (at + 1)
+  unfolding byteAt field
+  field-more e = go (ltb at (length s)) refl
+    where
+      go : (t : Bool) → ltb at (length s) ≡ t → upTo isSeparator (drop at s) ≡ getD s at 0 ∷ upTo isSeparator (drop (at + 1) s)
+      go true q = let h = ltb-true at (length s) q in run-more isSeparator s at h (sym (field-stop h) ∙ e)
+      go false q =
+          let o = field-out (ltb-false at (length s) q) in
+          let z : _≡_ {A = ℕ} 0 1 = (cc) in
+          absurd (omega arith)
+
+  pub natural-bad : (k most : ℕ) {t : Bool} → t ≡ isNatural (field s at) → t ≡ false → fault 3 at ≡ natural k most s at
+  unfolding natural
+  natural-bad k most p q = rw (sym p ∙ q)
 
 module _ (s : List ℕ) (at e : ℕ) (ends : e ≡ at + length (field s at)) where
-  field-part : take (e - at) (drop at s) ≡ field s at
-  unfolding field
-  field-part =
-      let h : e - at ≡ length (field s at) = omega arith in
-      rw h (upTo-take isSeparator (drop at s))
-
   pub field-within : at < e → e ≤ length s
   unfolding field
   field-within h = omega (arith, upTo-length isSeparator (drop at s), length-drop at s)
 
-  field-none : e ≤ at → isNatural (field s at) ≡ false
-  field-none h = natural-empty (field s at) (omega arith)
+  pub natural-none : (k most : ℕ) → e ≤ at → fault 3 at ≡ natural k most s at
+  unfolding natural
+  natural-none k most h = rw (natural-empty (field s at) (empty-of (field s at) (omega arith)))
+
+module _ (s : List ℕ) (at e : ℕ) (ends : e ≡ at + length (digitsAt s at)) where
+  pub natural-ends : isEmpty (field s e) ≡ allDigits (field s at)
+  unfolding field digitsAt
+  natural-ends = rw (ends, ← (drop-drop (length (upTo noDigit (drop at s))) at s)) (digits-end (drop at s))
+
+  natural-run : isNatural (field s at) ≡ true → field s at ≡ digitsAt s at
+  unfolding field digitsAt
+  natural-run h = digits-all (drop at s) (natural-digits (field s at) h)
 
   module _ (k most : ℕ) where
-    pub natural-none : e ≤ at → fault 3 at ≡ natural k most s at
-    unfolding natural
-    natural-none h = rw (field-none h)
-
-    pub natural-bad : {t : Bool} → t ≡ isNatural (take (e - at) (drop at s)) → t ≡ false → fault 3 at ≡ natural k most s at
-    unfolding natural
-    natural-bad p q = let h : isNatural (field s at) ≡ false = ap isNatural (sym field-part) ∙ sym p ∙ q in rw h
-
-    pub natural-large : {t : Bool} (v : ℕ) → t ≡ isNatural (take (e - at) (drop at s)) → t ≡ true
-        → v ≡ min (value 0 (take (e - at) (drop at s))) (most + 1) → most < v → fault k at ≡ natural k most s at
+    pub natural-large : {t : Bool} (v : ℕ) → t ≡ isNatural (field s at) → t ≡ true
+        → v ≡ min (value 0 (digitsAt s at)) (most + 1) → most < v → fault k at ≡ natural k most s at
     unfolding natural
     natural-large v p q m l =
-        let h : isNatural (field s at) ≡ true = ap isNatural (sym field-part) ∙ sym p ∙ q in
-        let j : value 0 (take (e - at) (drop at s)) ≡ value 0 (field s at) = ap (value 0) field-part in
+        let h = sym p ∙ q in
+        let j = ap (value 0) (natural-run h) in
         rw (h, lt-leb (value 0 (field s at)) most (omega arith))
 
-    pub natural-good : {t : Bool} (v : ℕ) → t ≡ isNatural (take (e - at) (drop at s)) → t ≡ true
-        → v ≡ min (value 0 (take (e - at) (drop at s))) (most + 1) → v ≤ most → found v e ≡ natural k most s at
+    pub natural-good : {t : Bool} (v : ℕ) → t ≡ isNatural (field s at) → t ≡ true
+        → v ≡ min (value 0 (digitsAt s at)) (most + 1) → v ≤ most → found v e ≡ natural k most s at
     unfolding natural
     natural-good v p q m l =
-        let h : isNatural (field s at) ≡ true = ap isNatural (sym field-part) ∙ sym p ∙ q in
-        let j : value 0 (take (e - at) (drop at s)) ≡ value 0 (field s at) = ap (value 0) field-part in
+        let h = sym p ∙ q in
+        let j = ap (value 0) (natural-run h) in
         let w : v ≡ value 0 (field s at) = omega arith in
-        rw (h, le-leb (value 0 (field s at)) most (omega arith), w, ends)
+        let n : e ≡ at + length (field s at) = omega (arith, ap length (natural-run h)) in
+        rw (h, le-leb (value 0 (field s at)) most (omega arith), w, n)
 
 -- the bytes of a comment lie within the text
 pub rest-within : (s : List ℕ) (at : ℕ) → at ≤ length s → at + restLength s at ≤ length s

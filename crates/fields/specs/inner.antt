@@ -3,3 +3,4 @@ pub mod Tape
 pub mod Values
 pub mod Bounds
 pub mod Kept
+pub mod Digits

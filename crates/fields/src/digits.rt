@@ -1,13 +1,20 @@
 // Bytes and digits of a text.
 ghost use mathlib.Core.Path.{_≡_};
-ghost use Prim.Native.Nat.{_+_, _-_, _≤_, min};
+ghost use Prim.Native.Nat.{_+_, _≤_, min};
 ghost use lib.ListN.{length, drop};
 ghost use Rattle.faults.specs.Limits.{largestBound};
-ghost use Rattle.fields.specs.Fields.{byteAt, upTo, isEither, field, zeroDigit, allDigits, isNatural, value};
+ghost use Rattle.fields.specs.Fields.{byteAt, upTo, isEither, field, isDigit, isEmpty, isNatural, value};
+ghost use Rattle.fields.specs.inner.Digits.{digitsAt};
 use crate::FEED;
 use crate::NINE_DIGIT;
 use crate::SPACE;
 use crate::ZERO_DIGIT;
+
+// The value of digits, or one more than the most that is asked where it is beyond that, and where they end.
+pub(crate) struct Digits {
+    pub(crate) value: u32,
+    pub(crate) end: usize,
+}
 
 // The byte at `at`, or 0 past the end.
 pub(crate) fn peek(s: &[u8], at: usize) -> u8
@@ -41,62 +48,79 @@ pub(crate) fn field_end(s: &[u8], at: usize) -> usize
     run_end(s, at, SPACE, FEED)
 }
 
-// Whether each byte of `f` is a digit.
-fn all_digits(f: &[u8]) -> bool
-    ensures { λ r. ⌜ r ≡ allDigits (now (f .entry)) ⌝ }
+// Whether a field ends at `at`: a space, a line end or the end of the text is there.
+fn ends_field(s: &[u8], at: usize) -> bool
+    ensures { λ r. ⌜ r ≡ isEmpty (field (now (s .entry)) at) ⌝ }
 {
-    let mut i = 0;
-    while i < f.len() {
-        let b = f[i];
-        if b < ZERO_DIGIT {
-            return false;
-        }
-        if NINE_DIGIT < b {
-            return false;
-        }
-        i += 1;
+    if s.len() <= at {
+        return true;
     }
-    true
+    let b = s[at];
+    if b == SPACE {
+        return true;
+    }
+    b == FEED
 }
 
-// Whether `f` is a natural: `0`, or digits that don't begin with 0.
-pub(crate) fn is_natural(f: &[u8]) -> bool
-    ensures { λ r. ⌜ r ≡ isNatural (now (f .entry)) ⌝ }
-{
-    if f.len() == 0 {
-        return false;
-    }
-    if f[0] == ZERO_DIGIT {
-        return f.len() == 1;
-    }
-    all_digits(f)
-}
-
-// The value of a digit.
-fn digit(b: u8) -> u64
-    ensures { λ r. ⌜ r ≡ b - zeroDigit ⌝ }
+// Whether `b` is a digit.
+fn is_digit(b: u8) -> bool
+    ensures { λ r. ⌜ r ≡ isDigit b ⌝ }
 {
     if b < ZERO_DIGIT {
-        0
-    } else {
-        (b - ZERO_DIGIT) as u64
+        return false;
+    }
+    b <= NINE_DIGIT
+}
+
+// `v`, or one more than `most` where it is beyond that.
+fn kept(v: u64, most: u32) -> u64
+    ensures { λ r. ⌜ r ≡ min v (most + 1) ⌝ }
+{
+    let bound = most as u64;
+    if bound < v {
+        return bound + 1;
+    }
+    v
+}
+
+// The digits that stand at `at`.
+pub(crate) fn digits_at(s: &[u8], at: usize, most: u32) -> Digits
+    requires { ⌜ most ≤ largestBound ⌝ }
+    ensures { λ r. ⌜ r .end ≡ at + length (digitsAt (now (s .entry)) at) ⌝ }
+    ensures { λ r. ⌜ r .value ≡ min (value 0 (digitsAt (now (s .entry)) at)) (most + 1) ⌝ }
+{
+    let mut v: u64 = 0;
+    let mut i = at;
+    while i < s.len() {
+        let b = s[i];
+        if is_digit(b) {
+            let d = b - ZERO_DIGIT;
+            v = kept(v * 10 + d as u64, most);
+            i += 1;
+        } else {
+            return Digits {
+                value: v as u32,
+                end: i,
+            };
+        }
+    }
+    Digits {
+        value: v as u32,
+        end: i,
     }
 }
 
-// The value of the digits `f`, or one more than `most` where it is beyond that.
-pub(crate) fn value_of(f: &[u8], most: u32) -> u32
-    requires { ⌜ most ≤ largestBound ⌝ }
-    ensures { λ r. ⌜ r ≡ min (value 0 (now (f .entry))) (most + 1) ⌝ }
+// Whether the field at `at`, whose digits end at `end`, is a natural: `0`, or digits that don't begin with 0.
+pub(crate) fn is_natural(s: &[u8], at: usize, end: usize) -> bool
+    requires { ⌜ end ≡ at + length (digitsAt (now s) at) ⌝ }
+    ensures { λ r. ⌜ r ≡ isNatural (field (now (s .entry)) at) ⌝ }
 {
-    let bound = most as u64;
-    let mut v: u64 = 0;
-    let mut i = 0;
-    while i < f.len() {
-        v = v * 10 + digit(f[i]);
-        if bound < v {
-            return most + 1;
-        }
-        i += 1;
+    if ends_field(s, at) {
+        return false;
     }
-    v as u32
+    if peek(s, at) == ZERO_DIGIT {
+        let from = at + 1;
+        return ends_field(s, from);
+    }
+    ends_field(s, end)
 }

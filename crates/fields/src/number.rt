@@ -16,10 +16,10 @@ use crate::Passed;
 use crate::SPACE;
 use crate::TermField;
 use crate::WordField;
+use crate::digits::digits_at;
 use crate::digits::field_end;
 use crate::digits::is_natural;
 use crate::digits::peek;
-use crate::digits::value_of;
 use faults::AtomNo;
 use faults::ElementNo;
 use faults::Kind;
@@ -125,29 +125,22 @@ impl Cursor {
         ensures { λ r. ⌜ asWord r ≡ natural (number beyond) most (now (s .entry)) (self .at) ⌝ }
     {
         let at = self.at;
-        let end = field_end(s, at);
-        if end <= at {
-            return WordField::Refused(Refusal {
-                kind: Kind::Grammar,
-                place: at,
-            });
-        }
-        let f = &s[at..end];
-        if is_natural(f) {
-            let v = value_of(f, most);
+        let d = digits_at(s, at, most);
+        let end = d.end;
+        if is_natural(s, at, end) {
+            let v = d.value;
             if most < v {
                 return WordField::Refused(Refusal {
                     kind: beyond,
                     place: at,
                 });
             }
-            WordField::Got(v, Cursor { at: end })
-        } else {
-            WordField::Refused(Refusal {
-                kind: Kind::Grammar,
-                place: at,
-            })
+            return WordField::Got(v, Cursor { at: end });
         }
+        WordField::Refused(Refusal {
+            kind: Kind::Grammar,
+            place: at,
+        })
     }
 
     // A space, and the natural after it.
