@@ -100,7 +100,7 @@ fn warned(plan: &Plan) -> String {
 // The outcome of `plan numbered`.
 fn number(path: &OsStr) -> Result<Outcome, Outcome> {
     let plan = Plan::new(&bytes_of(path)?);
-    let mut err = warned(&plan);
+    let mut err = String::new();
     if let Verdict::Refused { number: number @ 1..=6, place, .. } = judge(&plan.bytes, b"\n") {
         err += &format!("plan: the judge refuses this text, whatever the answer: refused {number} {place}\n");
     }

@@ -188,9 +188,12 @@ impl Plan {
         if self.word(*operator) != Some(b"<=") {
             return Err(format!("its operator is `{}`, not `<=`", self.term(*operator)));
         }
-        let k = self
-            .bound(*bound)
-            .ok_or_else(|| format!("its bound is `{}`, not a number or a minus before a number", self.term(*bound)))?;
+        let k = self.bound(*bound).ok_or_else(|| {
+            format!(
+                "its bound is `{}`, not a number or a minus before a number (arithmetic is to be computed in the body)",
+                self.term(*bound)
+            )
+        })?;
         Ok(Difference { x, y, k, line })
     }
 

@@ -49,20 +49,22 @@ fn headline(plan: &Plan, atom: u32, first: bool) -> String {
 
 // Why a rule does not found its head.
 fn reason(plan: &Plan, set: &Set, model: &Set, rule: &Rule) -> String {
-    let list = |literals: Vec<i64>| {
-        let names: Vec<String> = literals.into_iter().map(|l| format!("`{}`", plan.literal(l))).collect();
-        names.join(", ")
-    };
     if body_holds(set, rule) {
-        let resting = resting(set, model, rule).into_iter().map(i64::from).collect();
-        return format!("holds, but rests on {}, unfounded too", list(resting));
+        let resting = resting(set, model, rule).into_iter().map(|a| format!("`{}`", plan.atom(a)));
+        return format!("holds, but rests on {}, unfounded too", resting.collect::<Vec<_>>().join(", "));
     }
-    let false_literals = list(rule.body.iter().map(|(l, _)| *l).filter(|l| !holds(set, *l)).collect());
+    let failing = rule.body.iter().map(|(l, _)| *l).filter(|l| !holds(set, *l)).map(|l| failure(plan, l));
+    let failing = failing.collect::<Vec<_>>().join(", ");
     if rule.weighted {
-        let reached = reached(set, rule);
-        return format!("its weights reach {reached} of {}; not true: {false_literals}", rule.bound);
+        return format!("its weights reach {} of {}; fails: {failing}", reached(set, rule), rule.bound);
     }
-    format!("fails: {false_literals}")
+    format!("fails: {failing}")
+}
+
+// A literal that is not true, and why.
+fn failure(plan: &Plan, literal: i64) -> String {
+    let why = if literal > 0 { "not in the answer" } else { "that is in the answer" };
+    format!("`{}` ({why})", plan.literal(literal))
 }
 
 // The unfounded atoms on which a body rests that is true.

@@ -33,7 +33,7 @@ fn warning(plan: &Plan, names: &BTreeSet<String>, known: &mut BTreeMap<u32, Wort
     let meant = worth(plan, known, inner, 0).flatten().map(|n| plan.term_with(name, Some((inner, &n.to_string()))));
     let not = meant.as_ref().map_or(String::new(), |m| format!(", not `{m}`"));
     let both = match meant {
-        Some(meant) if names.contains(&meant) => format!(", and `{meant}` is a name too, with another time"),
+        Some(meant) if names.contains(&meant) => format!(", and `{meant}` is a name too, with a time of its own"),
         _ => String::new(),
     };
     let rewrite = plan.term_with(name, Some((inner, "T")));
