@@ -30,7 +30,7 @@ pub fn read(bytes: &[u8]) -> Answers {
     if !opened && !answered && status.is_none() {
         return Answers::Candidate(bytes.to_vec());
     }
-    let answers = if answered { announced(&lines) } else { bare(&lines) };
+    let answers = if answered || opened { announced(&lines) } else { bare(&lines) };
     Answers::Solver { answers, status: status.unwrap_or(Status::Missing) }
 }
 

@@ -5,10 +5,10 @@ use crate::text::{Plan, Statement};
 /// The greatest atom, and the longest string, that the judge reads.
 const MOST: u32 = 4_096;
 
-/// The text with its output statements replaced. One that the judge would refuse is kept; a text without a line `0` is
-/// given as it is.
+/// The text with its output statements replaced. One that the judge would refuse is kept, so that the text is judged
+/// alike; a text without a line `0` is given as it is.
 pub fn numbered(plan: &Plan) -> Vec<u8> {
-    let Some(end) = plan.lines.iter().position(|l| l.statement == Statement::End) else {
+    let Some(end) = plan.lines.iter().skip(1).position(|l| l.statement == Statement::End).map(|i| i + 1) else {
         return plan.bytes.clone();
     };
     let mut text = Vec::new();
@@ -16,7 +16,7 @@ pub fn numbered(plan: &Plan) -> Vec<u8> {
         if i == end {
             outputs(plan, &mut text);
         }
-        if i > end || !replaced(&line.statement) {
+        if i == 0 || i > end || !replaced(&line.statement) {
             let stop = (line.end + 1).min(plan.bytes.len());
             text.extend_from_slice(&plan.bytes[line.start..stop]);
         }

@@ -59,15 +59,23 @@ pub fn found(bytes: &[u8], place: usize) -> String {
     let Some(&byte) = bytes.get(place) else {
         return String::from("the end");
     };
-    let rest = &bytes[place..];
-    let length = rest.iter().position(|&b| b == b' ' || b == b'\n').unwrap_or(rest.len());
     match byte {
         b'\n' => String::from("the line end"),
         b' ' => String::from("a space"),
         b'\t' => String::from("a tab"),
         b'\r' => String::from("a carriage return (byte 13)"),
         0 => String::from("the byte 0"),
-        _ if length > BESIDE => format!("`{}..`", plain(&rest[..BESIDE])),
-        _ => format!("`{}`", plain(&rest[..length])),
+        _ => field(&bytes[place..]),
+    }
+}
+
+// The field at the beginning of some bytes, and what in it does not print.
+fn field(bytes: &[u8]) -> String {
+    let length = bytes.iter().position(|&b| b == b' ' || b == b'\n').unwrap_or(bytes.len());
+    let field = &bytes[..length];
+    let shown = if length > BESIDE { plain(&field[..BESIDE]) + ".." } else { plain(field) };
+    match field.iter().find(|b| b.is_ascii_control()) {
+        Some(byte) => format!("`{shown}`, with the byte {byte} in it"),
+        None => format!("`{shown}`"),
     }
 }
