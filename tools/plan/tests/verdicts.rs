@@ -3,6 +3,8 @@
 mod common;
 use common::{comment, on, only, p_with, P};
 
+use plan::judge::{judge, shown, time, Verdict};
+
 const NET: &str = include_str!("data/net.aspif");
 
 // The verdict, the place shown, and parts of the commentary.
@@ -251,4 +253,40 @@ fn relaxing_one_by_the_shortfall_is_enough() {
 fn ten_says_what_is_external() {
     let text = p_with("9 0 8 5", "9 0 8 45").replace("1 0 1 2 0 1 1\n", "");
     told(&text, "2 3\n", "refused 10 2", &["no rule has it in its head: it is external"]);
+}
+
+#[test]
+fn the_library_shows_the_part_that_the_line_shows() {
+    for (text, cand) in
+        [(only(&["1 0 1 1 0 1 -0"]), "\n"), (only(&["2 0 0"]), "\n"), (P.into(), "1 3\n"), (P.into(), "3 1\n")]
+    {
+        let report = on(&text, cand);
+        let line = report.line.clone().unwrap();
+        let range = shown(text.as_bytes(), cand.as_bytes(), report.number, report.place);
+        let bytes = if report.number == 7 { cand.as_bytes() } else { text.as_bytes() };
+        assert_eq!(line.text.as_bytes()[line.column - 1..], bytes[range], "{}", report.first);
+    }
+}
+
+#[test]
+fn columns_count_characters() {
+    let column = |line: &str| on(&only(&[line]), "\n").line.map(|l| (l.number, l.column));
+    assert_eq!(column("4 2 \u{e9} x"), Some((2, 7)));
+    assert_eq!(column("4 1 \u{e9} 0"), Some((2, 5)));
+    assert_eq!(column("4 3 \u{20ac}\u{20ac} 0"), Some((2, 6)));
+}
+
+#[test]
+fn a_long_line_is_shown_beside_the_caret() {
+    let line = format!("1 0 0 0 {}{}", 200, " 1".repeat(199));
+    let report = on(&only(&[&line]), "\n");
+    assert_eq!(report.line.map(|l| (l.text == line, l.column)), Some((true, line.len() + 1)));
+    assert!(report.comment[0].starts_with("line 2: ..") && report.comment[0].len() < 160, "{}", report.comment[0]);
+    assert_eq!(report.comment[1].len(), report.comment[0].len() + 1);
+}
+
+#[test]
+fn a_time_is_read_by_the_library() {
+    let Verdict::Accepted { table } = judge(P.as_bytes(), b"1 2 3\n") else { panic!() };
+    assert_eq!((time(&table, 3), time(&table, 4), time(&table, 5)), (Some(0), Some(5), None));
 }
