@@ -7,13 +7,13 @@ use native.Mathlib.Omega.{arith}
 use native.Mathlib.Numerals.{add-one}
 use lib.IntN.{ℤ, pos}
 use lib.ListN.{length, getD, set, length-set, take}
-use lib.Seq.{getD-set-same, getD-set-other, getD-take, length-take-le}
+use lib.Seq.{getD-take, length-take-le}
 use Rattle.faults.specs.Limits.{lastAtom}
 use Rattle.basics.specs.inner.Bitmaps.{isMarked}
 use Rattle.aspif.specs.inner.Words.{word}
 use Rattle.terms.specs.inner.Tables.{tabulated, heldAt}
 use Rattle.terms.specs.inner.Values.{Within}
-use Rattle.terms.proofs.Turns.{tabulated-same}
+use Rattle.terms.proofs.Turns.{tabulated-same, others, this}
 use Rattle.judge.specs.inner.Stages.{stated, inForce, Gathered, Filled, SmallStated, Labelled, Candidate}
 use Rattle.judge.proofs.Firsts.{length-tabulated, in-force-append, tabulated-all, all-force}
 use Rattle.judge.proofs.Few.{few-force}
@@ -22,21 +22,10 @@ use Rattle.judge.proofs.Few.{few-force}
 
 module _ (labels xs ys : List ℕ) (ks : List ℤ) (n a x y : ℕ) (k : ℤ)
     (ha : n < length labels) (hx : n < length xs) (hy : n < length ys) (hk : n < length ks) where
-  -- the other places are as they were
-  others : (i : ℕ) → (i ≡ n → ⊥) → heldAt (set labels n a) (set xs n x) (set ys n y) (set ks n k) i ≡ heldAt labels xs ys ks i
-  unfolding word
-  others i z =
-      rw (getD-set-other labels n i a 0 z, getD-set-other xs n i x 0 z, getD-set-other ys n i y 0 z, getD-set-other ks n i k (pos 0) z)
-
-  -- it has what was stored
-  this : heldAt (set labels n a) (set xs n x) (set ys n y) (set ks n k) n ≡ record { atom = a; says = record { x = x; y = y; k = k } }
-  unfolding word
-  this = rw (getD-set-same labels n a 0 ha, getD-set-same xs n x 0 hx, getD-set-same ys n y 0 hy, getD-set-same ks n k (pos 0) hk)
-
   -- so the list has one more at its end
   one-more : stated (suc n) (set labels n a) (set xs n x) (set ys n y) (set ks n k) ≡ stated n labels xs ys ks ++ (record { atom = a; says = record { x = x; y = y; k = k } } ∷ [])
   unfolding tabulated
-  one-more = rw (tabulated-same n (heldAt (set labels n a) (set xs n x) (set ys n y) (set ks n k)) (heldAt labels xs ys ks) (λ i h. others i (λ e. omega arith)), this)
+  one-more = rw (tabulated-same n (heldAt (set labels n a) (set xs n x) (set ys n y) (set ks n k)) (heldAt labels xs ys ks) (λ i h. others labels xs ys ks n a x y k ha hx hy hk i (λ e. omega arith)), this labels xs ys ks n a x y k ha hx hy hk)
 
 -- ---- the loop
 

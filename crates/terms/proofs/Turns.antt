@@ -194,19 +194,19 @@ module _ (s : Turn) (n : ℕ) (f : ℕ → Stated) where
 
 module _ (atoms xs ys : List ℕ) (ks : List ℤ) (n a x y : ℕ) (k : ℤ)
     (ha : n < length atoms) (hx : n < length xs) (hy : n < length ys) (hk : n < length ks) where
-  before-n : (i : ℕ) → i < n → heldAt (set atoms n a) (set xs n x) (set ys n y) (set ks n k) i ≡ heldAt atoms xs ys ks i
+  -- the other places are as they were
+  pub others : (i : ℕ) → (i ≡ n → ⊥) → heldAt (set atoms n a) (set xs n x) (set ys n y) (set ks n k) i ≡ heldAt atoms xs ys ks i
   unfolding word
-  before-n i h =
-      let z : i ≡ n → ⊥ = λ e. omega arith in
-      rw (getD-set-other atoms n i a 0 z, getD-set-other xs n i x 0 z, getD-set-other ys n i y 0 z, getD-set-other ks n i k (pos 0) z)
+  others i z = rw (getD-set-other atoms n i a 0 z, getD-set-other xs n i x 0 z, getD-set-other ys n i y 0 z, getD-set-other ks n i k (pos 0) z)
 
-  at-n : heldAt (set atoms n a) (set xs n x) (set ys n y) (set ks n k) n ≡ record { atom = a; says = record { x = x; y = y; k = k } }
+  -- this one has what was stored
+  pub this : heldAt (set atoms n a) (set xs n x) (set ys n y) (set ks n k) n ≡ record { atom = a; says = record { x = x; y = y; k = k } }
   unfolding word
-  at-n = rw (getD-set-same atoms n a 0 ha, getD-set-same xs n x 0 hx, getD-set-same ys n y 0 hy, getD-set-same ks n k (pos 0) hk)
+  this = rw (getD-set-same atoms n a 0 ha, getD-set-same xs n x 0 hx, getD-set-same ys n y 0 hy, getD-set-same ks n k (pos 0) hk)
 
   pub stored-one : (s : Turn) → asTurn s ≡ got (some (record { atom = a; says = record { x = x; y = y; k = k } }))
       → Stored s n (heldAt atoms xs ys ks) (Good (n + 1)) (heldAt (set atoms n a) (set xs n x) (set ys n y) (set ks n k))
-  stored-one s e = stored-more s n (heldAt atoms xs ys ks) _ _ e before-n at-n
+  stored-one s e = stored-more s n (heldAt atoms xs ys ks) _ _ e (λ i h. others i (λ z. omega arith)) this
 
 -- there is room for one more
 pub room-left : {t terms els seen terms′ els′ seen′ atoms xs ys : List ℕ} {ks : List ℤ} {p : ℕ} (s : Turn) (n : ℕ)

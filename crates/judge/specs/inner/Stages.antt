@@ -114,7 +114,7 @@ pub data Settled (n : ℕ) (c : ℕ → Diff) (labels names x : List ℕ) (b : R
   tableWritten : (u : ℕ → ℕ) → Earliest (diffs.Among n c) u
       → r ≡ accepting b (table (markedFrom 0 names) u (markedFrom 1 x)) → Settled n c labels names x b r
 
--- ---- the check for 11
+-- ---- checks, for 1 and for 11
 
 -- a step of which only the refusal counts
 abbrev pub asChecked : Step → Answer Unit
