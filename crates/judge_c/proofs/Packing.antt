@@ -24,7 +24,8 @@ use Rattle.judge.specs.declared.Verdict.the-variants.{Accepted, Refused}
 use Rattle.judge.specs.Shown.{inText, shown}
 use Rattle.judge.proofs.Parts.{shown-none}
 use Rattle.judge.proofs.Places.{places-bounded}
-use Rattle.judge_c.specs.Packed.{half, largestHalf, packedTime, packedPart, Fitting}
+use Rattle.judge_c.specs.Packed.{half, largestHalf, packedTime, packedPart}
+use Rattle.judge_c.specs.inner.Steps.{Fitting}
 
 -- what the judge may give fits the lower half
 pub fits : (i : Asked) (v : Verdict) {b a : Rooms} → Judged i b (record { verdict = asVerdict v; rooms = a }) → Fitting v

@@ -5,16 +5,11 @@ use mathlib.Core.List.{List}
 use lib.Dec.{eqb}
 use Rattle.basics.specs.Bools.{pick}
 use Rattle.faults.specs.Answer.{Answer, got, refused}
-use Rattle.faults.specs.Values.{number}
-use Rattle.faults.specs.declared.Kind.{Kind}
 use Rattle.timetable.specs.Times.{timeOf}
 use Rattle.judge.specs.Plan.{Asked, Rooms}
 use Rattle.judge.specs.Judged.{Judgement, acceptance, refusal, Judged}
 use Rattle.judge.specs.Values.{asVerdict}
 use Rattle.judge.specs.declared.Verdict.{Verdict}
-use Rattle.judge.specs.declared.Verdict.the-variants.{Accepted, Refused}
-use Rattle.judge_c.specs.declared.Named.{Named}
-use Rattle.judge_c.specs.declared.Named.the-variants.{Is, Nothing}
 
 -- a half holds the numbers below this
 abbrev pub half : ℕ
@@ -28,11 +23,6 @@ largestHalf = 4294967295
 abbrev pub packed : Judgement → ℕ
 packed (acceptance n) = n
 packed (refusal k p) = k * half + p
-
--- the lower half holds its length or place
-abbrev pub Fitting : Verdict → Type 0
-Fitting (Accepted n) = n < half
-Fitting (Refused f) = f .place < half
 
 -- 0 above, the time below; or the refusal's number above, its place below, which is 0 or the term asked for
 abbrev pub packedTime : Answer ℕ → ℕ
@@ -49,11 +39,6 @@ pub record Answers (a : Asked) (before after : Rooms) (r : ℕ) : Type 0 where
   pub verdict : Verdict
   pub judged : Judged a before (record { verdict = asVerdict verdict; rooms = after })
   pub value : r ≡ packed (asVerdict verdict)
-
--- the kind whose number n is, or no kind has it
-abbrev pub Found : ℕ → Named → Type 0
-Found n (Is k) = number k ≡ n
-Found n Nothing = (k : Kind) → number k ≡ n → ⊥
 
 -- ---- the halves give back what was packed
 

@@ -1,0 +1,2 @@
+-- What only contracts between functions cite.
+pub mod Steps
