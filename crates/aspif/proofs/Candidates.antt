@@ -1,13 +1,14 @@
 -- Laws of the candidate's grammar: what each way through the code gives, and what a candidate that was read or refused is. Assumes nothing.
 use Prim.Native.Nat.{ℕ, zero, suc, _+_, _-_, _*_, _≤_, _<_}
 use mathlib.Core.Path.{_≡_, refl, sym, _∙_}
+use mathlib.Core.Logic.{inr}
 use mathlib.Core.List.{List, [], _∷_, _++_, append-assoc}
 use mathlib.Core.Bool.{Bool, true, false, _&&_}
 use native.Mathlib.Omega.{arith}
 use borrow.Author.Tests.{eq-eqb, ne-eqb, eqb-true, eqb-false, leb-true, leb-false, ltb-true, le-leb, lt-leb}
 use lib.Dec.{eqb, leb, ltb, lit<}
 use lib.ListN.{length, getD, set, replicate, length-set, length-replicate}
-use lib.Seq.{getD-set-other}
+use lib.Seq.{getD-set-same, getD-set-other}
 use Rattle.faults.specs.Limits.{lastAtom}
 use Rattle.faults.specs.inner.Places.{atomPlaces}
 use Rattle.faults.specs.Answer.{got, refused}
@@ -212,6 +213,7 @@ module _ {s x : List ℕ} {low at : ℕ} {whole : Reading (List ℕ)} (h : Marki
         places = simp length-set (h .places);
         small = bounds .1;
         none = λ a g. rw (getD-set-other x v a 1 0 (λ d. omega arith), h .clear a (omega (arith, bounds)));
+        marked = inr (rw (getD-set-same x v 1 0 (omega (arith, h .places, bounds))));
       }
 
       pub marking-more : {l : ℕ} → found tt l ≡ byte 32 s m → Marking s (set x v 1) v l whole

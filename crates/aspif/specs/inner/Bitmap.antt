@@ -1,9 +1,11 @@
 -- Inner: a candidate as a bitmap. Assumes nothing.
 use Prim.Native.Nat.{ℕ, _+_, _≤_}
 use mathlib.Core.Path.{_≡_}
+use mathlib.Core.Bool.{true}
+use mathlib.Core.Logic.{_⊎_}
 use mathlib.Core.List.{List}
 use lib.ListN.{length, getD}
-use Rattle.basics.specs.inner.Bitmaps.{marks, NoneFrom}
+use Rattle.basics.specs.inner.Bitmaps.{isMarked, marks, NoneFrom}
 use Rattle.faults.specs.Limits.{lastAtom}
 use Rattle.faults.specs.inner.Places.{atomPlaces}
 
@@ -16,8 +18,9 @@ pub record Blank (x : List ℕ) : Type 0 where
   pub places : length x ≡ atomPlaces
   pub clear : (a : ℕ) → getD x a 0 ≡ 0
 
--- one in which no atom above the last is marked
+-- one whose last mark is that of an atom; 0 stands for none
 pub record EndsAt (last : ℕ) (x : List ℕ) : Type 0 where
   pub places : length x ≡ atomPlaces
   pub small : last ≤ lastAtom
   pub none : NoneFrom (last + 1) x
+  pub marked : (last ≡ 0) ⊎ (isMarked x last ≡ true)

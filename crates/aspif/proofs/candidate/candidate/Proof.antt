@@ -1,5 +1,6 @@
 -- `aspif::candidate::candidate` meets its contract: a line end alone leaves the bitmap blank, anything else is a list of atoms. Assumes nothing.
-use mathlib.Core.Path.{sym, ap, _∙_}
+use mathlib.Core.Path.{refl, sym, ap, _∙_}
+use mathlib.Core.Logic.{inl}
 use native.Mathlib.Omega.{arith}
 use borrow.Author.Needs.{needs}
 use Rattle.fields.specs.inner.Values.{asPassed}
@@ -52,7 +53,7 @@ returns-3 : tie.Need-returns-3
 returns-3 c =
     let z = c .before .before .before .before .before .before .start .ensures in
     let blank = c .before .before .before .before .before .before .before .before .before .pre in
-    (rw (marks-none _ (blank .clear)) (empty-good _ (sym (ap asPassed (c .before .before .before .enum-told .given .1)) ∙ (rw z at (c .before .before .before .before .before .line-end .ensures))) (sym (ap asPassed (c .enum-told3 .given .1)) ∙ (rw z at (c .before .before .ending .ensures)))), record { places = blank .places; small = omega arith; none = λ a h. rw (blank .clear a) })
+    (rw (marks-none _ (blank .clear)) (empty-good _ (sym (ap asPassed (c .before .before .before .enum-told .given .1)) ∙ (rw z at (c .before .before .before .before .before .line-end .ensures))) (sym (ap asPassed (c .enum-told3 .given .1)) ∙ (rw z at (c .before .before .ending .ensures)))), record { places = blank .places; small = omega arith; none = λ a h. rw (blank .clear a); marked = inl refl })
 
 pub candidate-spec : {M : Type 1} → statement M
 candidate-spec =
