@@ -15,11 +15,11 @@ use Rattle.terms.specs.Says.{Says, Name}
 use Rattle.terms.specs.Terms.{external}
 use Rattle.stable.proofs.Stability.{stable-answers}
 use Rattle.judge.specs.Plan.{Rooms, Ready, holds, InForce}
-use Rattle.judge.specs.Judged.{refusal, Result, refusing, showing}
-use Rattle.judge.specs.Demand2.{StableModel, Timeable, Accepted, ShowsCycle, Otherwise, Demanded}
+use Rattle.judge.specs.Judged.{Judgement, refusal, Result, refusing}
+use Rattle.judge.specs.Demand2.{StableModel, Timeable, Accepted, ShowsCycle, Otherwise, shownBroken, shownUnfounded, shownCycle, Demanded}
 use Rattle.further.specs.Later.{Later}
 use Rattle.further.specs.Demand3.{timeIn, Further, Demand3}
-use Rattle.judge.proofs.Judgements.{numbers, places, not-accepted}
+use Rattle.judge.proofs.Judgements.{verdicts, numbers, not-accepted}
 use Rattle.judge.proofs.Demand2.{demand-2}
 use Rattle.further.proofs.Broken.{still-whole, still-broken}
 use Rattle.further.proofs.Founding.{still-founded, still-smallest}
@@ -27,30 +27,29 @@ use Rattle.further.proofs.Saying.{still-name, only-held, still-force}
 
 -- ---- from the verdict to what is shown
 
+-- what a refusal by the number k with the place p shows
+record Shown (q : Ready) (b : Rooms) (r : Result) (k p : ℕ) : Type 0 where
+  pub cycle : k ≡ 10 → ShowsCycle q b r
+  pub other : (k ≡ 10 → ⊥) → r ≡ refusing b k p
+
 module _ (q : Ready) (b : Rooms) (r : Result) (k p : ℕ) (v : r .verdict ≡ refusal k p) where
-  same : (s : Result) → r ≡ s → s .verdict ≡ refusal k p
-  same s e = sym (ap (λ (x : Result). x .verdict) e) ∙ v
+  -- the verdict of what is shown is the one given
+  given : {s : Result} → r ≡ s → s .verdict ≡ refusal k p
+  given e = sym (verdicts e) ∙ v
 
-  -- a verdict with the number 8 shows a broken rule
-  by-eight : k ≡ 8 → Accepted r ⊎ Otherwise q b r → r ≡ refusing b 8 p
-  by-eight i (inl a) = absurd (not-accepted (sym (a .is) ∙ v))
-  by-eight i (inr (inl e)) = e .1 ∙ ap (refusing b 8) (places (same (refusing b 8 (e .0)) (e .1)))
-  by-eight i (inr (inr (inl e))) = absurd (omega (arith, numbers (same (refusing b 9 (e .0)) (e .1))))
-  by-eight i (inr (inr (inr s))) = absurd (omega (arith, numbers (same (showing b (s .list)) (s .is))))
+  -- a refusal by another number than 10
+  by-number : (j o : ℕ) → (j ≡ 10 → ⊥) → r ≡ refusing b j o → Shown q b r k p
+  by-number j o n e = record {
+    cycle = λ t. absurd (n (numbers (given e) ∙ t));
+    other = λ t. e ∙ ap (λ (w : Judgement). record { verdict = w; rooms = b }) (given e);
+  }
 
-  -- with the number 9 an unfounded atom
-  by-nine : k ≡ 9 → Accepted r ⊎ Otherwise q b r → r ≡ refusing b 9 p
-  by-nine i (inl a) = absurd (not-accepted (sym (a .is) ∙ v))
-  by-nine i (inr (inl e)) = absurd (omega (arith, numbers (same (refusing b 8 (e .0)) (e .1))))
-  by-nine i (inr (inr (inl e))) = e .1 ∙ ap (refusing b 9) (places (same (refusing b 9 (e .0)) (e .1)))
-  by-nine i (inr (inr (inr s))) = absurd (omega (arith, numbers (same (showing b (s .list)) (s .is))))
-
-  -- with the number 10 a negative cycle
-  by-ten : k ≡ 10 → Accepted r ⊎ Otherwise q b r → ShowsCycle q b r
-  by-ten i (inl a) = absurd (not-accepted (sym (a .is) ∙ v))
-  by-ten i (inr (inl e)) = absurd (omega (arith, numbers (same (refusing b 8 (e .0)) (e .1))))
-  by-ten i (inr (inr (inl e))) = absurd (omega (arith, numbers (same (refusing b 9 (e .0)) (e .1))))
-  by-ten i (inr (inr (inr s))) = s
+  -- a refusal shows what demand 2 says of its number
+  shown-by : Accepted r ⊎ Otherwise q b r → Shown q b r k p
+  shown-by (inl a) = absurd (not-accepted (sym (a .is) ∙ v))
+  shown-by (inr (shownBroken o e)) = by-number 8 o (λ t. omega arith) e
+  shown-by (inr (shownUnfounded o e)) = by-number 9 o (λ t. omega arith) e
+  shown-by (inr (shownCycle s)) = record { cycle = λ t. s; other = λ n. absurd (n (sym (numbers (given (s .is))))) }
 
 -- ---- a plan with time rules added
 
@@ -105,13 +104,13 @@ module _ (q q′ : Ready) (new : List ℕ) (l : Later q q′ new) (b b′ : Room
               ∙ ap got (nothing-moves (InForce q) (InForce q′) (still-force q q′ new l) (t .times) (t′ .times) (t .earliest) (t′ .earliest) kept n ∙ sym (as-read n m)),
         );
     broken = λ p v.
-        let s = still-broken q q′ new l p (D .first-broken p .0 (by-eight q b r 8 p v refl (D .otherwise))) in
+        let s = still-broken q q′ new l p (D .first-broken p .0 (shown-by q b r 8 p v (D .otherwise) .other (λ e. omega arith))) in
         (s .0, s .1, D′ .first-broken (s .0) .1 (s .2));
     unfounded = λ a v.
-        let w = D .smallest-unfounded a .0 (by-nine q b r 9 a v refl (D .otherwise)) in
+        let w = D .smallest-unfounded a .0 (shown-by q b r 9 a v (D .otherwise) .other (λ e. omega arith)) in
         D′ .smallest-unfounded a .1 (still-whole q q′ new l (w .0), still-smallest q q′ new l a (w .1));
     cyclic = λ k v.
-        let w = D .negative-cycle .0 (by-ten q b r 10 k v refl (D .otherwise)) in
+        let w = D .negative-cycle .0 (shown-by q b r 10 k v (D .otherwise) .cycle refl) in
         D′ .negative-cycle .1 (
           still-whole q q′ new l (w .0),
           still-founded q q′ new l (w .1),

@@ -17,7 +17,7 @@ use Rattle.timetable.specs.Table.{tableOf}
 use Rattle.timetable.specs.Times.{timeOf}
 use Rattle.judge.specs.Plan.{Asked, Rooms, Ready, holds, readable, InForce}
 use Rattle.judge.specs.Judged.{acceptance, Result, refusing, accepting, impossible, possible, unsupported, supported, Weighed, breaks, sound, Judges, unreadable, judgeable}
-use Rattle.judge.specs.Demand2.{StableModel, Timeable, NoneBroken, BrokenAt, NoneUnfounded, UnfoundedAt, Accepted, Timetable, ShowsCycle, Otherwise, Demand2}
+use Rattle.judge.specs.Demand2.{StableModel, Timeable, NoneBroken, BrokenAt, NoneUnfounded, UnfoundedAt, Accepted, Timetable, ShowsCycle, Otherwise, shownBroken, shownUnfounded, shownCycle, Demand2}
 use Rattle.judge.proofs.Ascent.{of-member}
 use Rattle.judge.proofs.Judgements.{verdicts, numbers, places, lengths, not-accepted}
 use Rattle.judge.proofs.Unique.{no-times, smallest-unique}
@@ -87,9 +87,9 @@ module _ (q : Ready) (b : Rooms) (r : Result) where
 
   -- otherwise one of the three
   other : Ending q b r → Accepted r ⊎ Otherwise q b r
-  other (at-eight p f g) = inr (inl (p, g))
-  other (at-nine f c g h) = inr (inr (inl (c, h)))
-  other (at-ten f g s) = inr (inr (inr s))
+  other (at-eight p f g) = inr (shownBroken p g)
+  other (at-nine f c g h) = inr (shownUnfounded c h)
+  other (at-ten f g s) = inr (shownCycle s)
   other (at-end f g t) = inl (accept t)
 
   -- 8

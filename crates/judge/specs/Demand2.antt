@@ -65,9 +65,11 @@ pub record ShowsCycle (q : Ready) (b : Rooms) (r : Result) : Type 0 where
   pub negative : NegativeCycle q list
   pub is : r ≡ showing b list
 
--- what is shown otherwise
-abbrev pub Otherwise : Ready → Rooms → Result → Type 0
-Otherwise q b r = ((p : ℕ) × (r ≡ refusing b 8 p)) ⊎ (((a : ℕ) × (r ≡ refusing b 9 a)) ⊎ ShowsCycle q b r)
+-- what is shown otherwise: a broken rule, an unfounded atom or a negative cycle
+pub data Otherwise (q : Ready) (b : Rooms) (r : Result) : Type 0 where
+  shownBroken : (p : ℕ) → r ≡ refusing b 8 p → Otherwise q b r
+  shownUnfounded : (a : ℕ) → r ≡ refusing b 9 a → Otherwise q b r
+  shownCycle : ShowsCycle q b r → Otherwise q b r
 
 -- ---- demand 2
 
