@@ -1,5 +1,4 @@
 -- General laws.
-pub mod Arms
 pub mod Parts
 pub mod Ascent
 pub mod Unique

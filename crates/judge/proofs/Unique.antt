@@ -12,6 +12,7 @@ use Rattle.basics.specs.Lists.{All}
 use Rattle.faults.specs.Answer.{Answer, got}
 use Rattle.faults.specs.Values.{number}
 use Rattle.faults.specs.declared.Refusal.{Refusal}
+use Rattle.faults.proofs.Numbers.{kindOf, kind-back}
 use Rattle.diffs.specs.Diff.{Diff, KeepsAll, whole, NegCycle}
 use Rattle.diffs.proofs.Cycles.{exclusive}
 use Rattle.diffs.proofs.EarliestTimes.{earliest-unique}
@@ -26,7 +27,6 @@ use Rattle.judge.specs.Shown.{IsShown}
 use Rattle.judge.specs.Values.{asVerdict, result}
 use Rattle.judge.specs.declared.Verdict.{Verdict}
 use Rattle.judge.specs.declared.Verdict.the-variants.{Accepted, Refused}
-use Rattle.judge.proofs.Arms.{kindOf, kind-back}
 use Rattle.judge.proofs.Ascent.{names-unique}
 
 -- ---- cycles

@@ -1,12 +1,13 @@
 -- Believed: showing a fault: docs/RULES.md, the end of 'Verdicts'. Assumes nothing.
 use Prim.Native.Nat.{ℕ, _+_, min}
 use mathlib.Core.Path.{_≡_}
-use mathlib.Core.Bool.{Bool, true, _||_}
-use mathlib.Core.List.{List, []}
+use mathlib.Core.Bool.{Bool, true}
+use mathlib.Core.List.{List, [], _∷_}
 use lib.Dec.{eqb}
 use lib.ListN.{length, drop}
 use denote.Ref.{RefT, ptr, now}
 use Rattle.basics.specs.Bools.{pick}
+use Rattle.basics.specs.Lists.{among}
 use Rattle.fields.specs.Fields.{feed, upTo}
 
 -- byte 10
@@ -18,8 +19,11 @@ unfoldable pub partFrom : List ℕ → (place : ℕ) → List ℕ
 partFrom s place = upTo isLineEnd (drop place s)
 
 -- the numbers whose place is in the text
+abbrev pub textNumbers : List ℕ
+textNumbers = 3 ∷ 4 ∷ 5 ∷ 6 ∷ 8 ∷ []
+
 abbrev pub inText : (number : ℕ) → Bool
-inText k = eqb k 3 || (eqb k 4 || (eqb k 5 || (eqb k 6 || eqb k 8)))
+inText k = among k textNumbers
 
 -- the part that is shown: of the text, for 7 of the candidate, for every other number nothing
 unfoldable pub shown : (number place : ℕ) → (text cand : List ℕ) → List ℕ

@@ -8,8 +8,7 @@ use lib.Dec.{eqb}
 use Rattle.basics.specs.Bools.{pick}
 use Rattle.faults.specs.Answer.{Answer, got, refused}
 use Rattle.faults.specs.Values.{number}
-use Rattle.faults.specs.declared.Kind.{Kind}
-use Rattle.faults.specs.declared.Kind.the-variants.{Room, Long, Grammar, Carried, Bounds, Terms, Candidate, Broken, Unfounded, Cycle, Late, NotTable, NotNamed}
+use Rattle.faults.proofs.Numbers.{numbered}
 use Rattle.timetable.specs.Times.{timeOf}
 use Rattle.judge.specs.Plan.{Asked, Rooms}
 use Rattle.judge.specs.Judged.{acceptance, refusal, Judged}
@@ -30,22 +29,6 @@ module _ {A : Type 0} (value : ℕ → A) (fault : (number place : ℕ) → A) w
       let a : above (k * half + p) ≡ k = omega arith in
       let b : below (k * half + p) ≡ p = omega arith in
       rw (a, b, ne-eqb k 0 (λ (e : k ≡ 0). omega arith))
-
--- no kind has number 0
-numbered : (k : Kind) → 0 < number k
-numbered Room = omega arith
-numbered Long = omega arith
-numbered Grammar = omega arith
-numbered Carried = omega arith
-numbered Bounds = omega arith
-numbered Terms = omega arith
-numbered Candidate = omega arith
-numbered Broken = omega arith
-numbered Unfounded = omega arith
-numbered Cycle = omega arith
-numbered Late = omega arith
-numbered NotTable = omega arith
-numbered NotNamed = omega arith
 
 -- a verdict that the judge may give
 verdict-back : (i : Asked) (b a : Rooms) (v : Verdict) → Judged i b (record { verdict = asVerdict v; rooms = a })

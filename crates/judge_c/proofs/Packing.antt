@@ -1,6 +1,6 @@
 -- What a packed number stands for, by cases. Assumes nothing.
 use Prim.Native.Nat.{ℕ, _+_, _*_, _≤_, _<_, min}
-use mathlib.Core.Path.{_≡_, refl, sym, ap}
+use mathlib.Core.Path.{_≡_, refl, ap}
 use mathlib.Core.Bool.{Bool, true, false}
 use mathlib.Core.List.{List, [], _∷_}
 use native.Mathlib.Omega.{arith}
@@ -11,7 +11,8 @@ use Rattle.basics.specs.Bools.{pick}
 use Rattle.faults.specs.Answer.{Answer, got, refused}
 use Rattle.faults.specs.Values.{number}
 use Rattle.faults.specs.declared.Kind.{Kind}
-use Rattle.faults.specs.declared.Kind.the-variants.{Grammar, Carried, Bounds, Terms, Candidate, Broken}
+use Rattle.faults.specs.declared.Kind.the-variants.{Candidate}
+use Rattle.faults.proofs.Numbers.{no-number, among-none}
 use Rattle.timetable.specs.Table.{Record, timesFit, isTable, contentOf as shownIn}
 use Rattle.timetable.specs.Times.{timeAmong, timeOf}
 use Rattle.timetable.proofs.Bounds.{first-time, is-within}
@@ -21,7 +22,7 @@ use Rattle.judge.specs.Judged.{Judged}
 use Rattle.judge.specs.Values.{asVerdict}
 use Rattle.judge.specs.declared.Verdict.{Verdict}
 use Rattle.judge.specs.declared.Verdict.the-variants.{Accepted, Refused}
-use Rattle.judge.specs.Shown.{inText, shown}
+use Rattle.judge.specs.Shown.{textNumbers, inText, shown}
 use Rattle.judge.proofs.Parts.{shown-none}
 use Rattle.judge.proofs.Places.{places-bounded}
 use Rattle.judge_c.specs.Packed.{half, largestHalf, packedTime, packedPart}
@@ -78,11 +79,8 @@ some-part p n m r any f e = rw (ne-eqb n 0 any, ← f) e
 
 -- a number that no kind has shows nothing
 module _ (n : ℕ) (none : (k : Kind) → number k ≡ n → ⊥) where
-  other : (k : Kind) → eqb n (number k) ≡ false
-  other k = ne-eqb n (number k) (λ (e : n ≡ number k). none k (sym e))
-
   not-in-text : inText n ≡ false
-  not-in-text = rw (other Grammar, other Carried, other Bounds, other Terms, other Broken)
+  not-in-text = among-none n none textNumbers refl
 
   pub nothing-shown : (p : ℕ) (text cand : List ℕ) → 0 ≡ length (shown n p text cand)
-  nothing-shown p text cand = ap length (shown-none n p text cand not-in-text (other Candidate))
+  nothing-shown p text cand = ap length (shown-none n p text cand not-in-text (no-number n none Candidate))

@@ -9,9 +9,8 @@ use lib.Dec.{eqb}
 use Rattle.basics.specs.Bools.{pick}
 use Rattle.faults.specs.Answer.{got, refused}
 use Rattle.faults.specs.Values.{number}
-use Rattle.faults.specs.declared.Kind.{Kind}
-use Rattle.faults.specs.declared.Kind.the-variants.{Room, Long, Grammar, Carried, Bounds, Terms, Candidate, Broken, Unfounded, Cycle, Late, NotTable, NotNamed}
 use Rattle.faults.specs.declared.Refusal.{Refusal}
+use Rattle.faults.proofs.Numbers.{same-kind}
 use Rattle.timetable.specs.Table.{Record, contentOf, isTable}
 use Rattle.timetable.specs.Times.{asTime, timeAmong, timeOf}
 use Rattle.timetable.specs.declared.Time.{Time}
@@ -38,41 +37,6 @@ no-table-exactly s u = (λ e. go (isTable s) e, λ h. rw h)
     go false q = refl
 
 -- ---- one answer
-
--- the kind of a number
-abbrev kind : ℕ → Kind
-kind n =
-    pick (eqb n 1) Room
-    (pick (eqb n 2) Long
-    (pick (eqb n 3) Grammar
-    (pick (eqb n 4) Carried
-    (pick (eqb n 5) Bounds
-    (pick (eqb n 6) Terms
-    (pick (eqb n 7) Candidate
-    (pick (eqb n 8) Broken
-    (pick (eqb n 9) Unfounded
-    (pick (eqb n 10) Cycle
-    (pick (eqb n 11) Late
-    (pick (eqb n 20) NotTable
-    NotNamed)))))))))))
-
-kind-number : (k : Kind) → kind (number k) ≡ k
-kind-number Room = refl
-kind-number Long = refl
-kind-number Grammar = refl
-kind-number Carried = refl
-kind-number Bounds = refl
-kind-number Terms = refl
-kind-number Candidate = refl
-kind-number Broken = refl
-kind-number Unfounded = refl
-kind-number Cycle = refl
-kind-number Late = refl
-kind-number NotTable = refl
-kind-number NotNamed = refl
-
-same-kind : (a b : Kind) → number a ≡ number b → a ≡ b
-same-kind a b e = sym (kind-number a) ∙ ap kind e ∙ kind-number b
 
 same-refusal : (r q : Refusal) → r .kind ≡ q .kind → r .place ≡ q .place → r ≡ q
 same-refusal r q e f =

@@ -1,7 +1,6 @@
 -- `judge_c::kind_of` meets its contract. Assumes nothing.
-use mathlib.Core.Path.{sym}
-use Rattle.faults.specs.declared.Kind.the-variants.{Room, Long, Grammar, Carried, Bounds, Terms, Candidate, Broken, Unfounded, Cycle, Late, NotTable, NotNamed}
 use borrow.Author.Needs.{needs}
+use Rattle.faults.proofs.Numbers.{no-arm}
 use Rattle.judge_c.proofs.kind_of.Statement.{statement}
 use Rattle.judge_c.proofs.kind_of.Tie as tie
 
@@ -45,19 +44,7 @@ returns-13 : tie.Need-returns-13
 returns-13 c = search needs
 
 returns-14 : tie.Need-returns-14
-returns-14 c Room e = c .match .rest .0 .0 .0 .0 .0 .0 .0 .0 .0 .0 .0 .0 .1 (sym e)
-returns-14 c Long e = c .match .rest .0 .0 .0 .0 .0 .0 .0 .0 .0 .0 .0 .1 (sym e)
-returns-14 c Grammar e = c .match .rest .0 .0 .0 .0 .0 .0 .0 .0 .0 .0 .1 (sym e)
-returns-14 c Carried e = c .match .rest .0 .0 .0 .0 .0 .0 .0 .0 .0 .1 (sym e)
-returns-14 c Bounds e = c .match .rest .0 .0 .0 .0 .0 .0 .0 .0 .1 (sym e)
-returns-14 c Terms e = c .match .rest .0 .0 .0 .0 .0 .0 .0 .1 (sym e)
-returns-14 c Candidate e = c .match .rest .0 .0 .0 .0 .0 .0 .1 (sym e)
-returns-14 c Broken e = c .match .rest .0 .0 .0 .0 .0 .1 (sym e)
-returns-14 c Unfounded e = c .match .rest .0 .0 .0 .0 .1 (sym e)
-returns-14 c Cycle e = c .match .rest .0 .0 .0 .1 (sym e)
-returns-14 c Late e = c .match .rest .0 .0 .1 (sym e)
-returns-14 c NotTable e = c .match .rest .0 .1 (sym e)
-returns-14 c NotNamed e = c .match .rest .1 (sym e)
+returns-14 c = no-arm _ (c .match .rest)
 
 pub kind-of-spec : {M : Type 1} → statement M
 kind-of-spec =

@@ -1,0 +1,2 @@
+-- General laws.
+pub mod Numbers
