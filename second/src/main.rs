@@ -1,7 +1,7 @@
 //! The program: judges two files, or prints what reading one gives.
 
 use second::testing::random::Random;
-use second::testing::{container, generating, plans, vectors};
+use second::testing::{cases, container, plans, vectors};
 use std::io::Write;
 
 // The bytes of a file; none if it can't be opened.
@@ -40,7 +40,7 @@ fn generate(dir: &str, seed: &str, count: &str) -> String {
     };
     let mut random = Random::new(seed);
     for i in 0..count {
-        let (text, cand) = generating::case(&mut random);
+        let (text, cand) = cases::case(&mut random);
         let wrote = std::fs::write(format!("{dir}/{i:06}.aspif"), text)
             .and_then(|_| std::fs::write(format!("{dir}/{i:06}.cand"), cand));
         if wrote.is_err() {

@@ -5,9 +5,10 @@ mod common;
 use common::{check_heaviest, check_traps, further, judged_by, q, refused, wrap, P};
 use second::judge::judging::{CYCLE_PLACES, ROOM_BYTES};
 use second::judge::timetable;
+use second::testing::damaging::damage;
 use second::testing::generating::{all_atoms, choice, padded};
 use second::testing::random::Random;
-use second::testing::{generating, proved};
+use second::testing::{cases, generating, proved};
 use second::{check_cycle, Refusal, Verdict};
 use std::collections::BTreeMap;
 
@@ -255,7 +256,7 @@ fn long_texts() {
     let mut random = random(1);
     for _ in 0..times(60) {
         let mut text = padded(&generating::rule_chain(2500, true).0, 59_990 + random.below(20));
-        generating::damage(&mut random, &mut text);
+        damage(&mut random, &mut text);
         both.compare(&text, b"\n");
     }
 }
@@ -332,7 +333,7 @@ fn long_chains() {
 fn generated() {
     let (mut random, mut both, mut counts) = (random(2), Both::wide(11), Counts::new());
     for _ in 0..times(90_000) {
-        let (text, cand) = generating::case(&mut random);
+        let (text, cand) = cases::case(&mut random);
         both.count(&mut random, &mut counts, &text, &cand);
     }
     settle("generated", &counts, &[0, 3, 4, 5, 6, 7, 8, 9, 10], 100);
@@ -342,12 +343,12 @@ fn generated() {
 fn damaged() {
     let (mut random, mut both, mut counts) = (random(3), Both::wide(13), Counts::new());
     for _ in 0..times(3_000) {
-        let (text, cand) = generating::case(&mut random);
+        let (text, cand) = cases::case(&mut random);
         for _ in 0..20 {
             let (mut text, mut cand) = (text.clone(), cand.clone());
             for _ in 0..1 + random.below(4) {
                 let bytes = if random.once_in(3) { &mut cand } else { &mut text };
-                generating::damage(&mut random, bytes);
+                damage(&mut random, bytes);
             }
             both.count(&mut random, &mut counts, &text, &cand);
         }
@@ -432,7 +433,7 @@ fn loose_theories() {
 fn rooms_of_random_sizes() {
     let (mut random, mut counts) = (random(7), Counts::new());
     for _ in 0..times(2_000) {
-        let (text, cand) = generating::case(&mut random);
+        let (text, cand) = cases::case(&mut random);
         let room = ROOM_BYTES - 3 + random.below(8);
         let cycle = CYCLE_PLACES - 3 + random.below(8);
         let mut both = Both::new(room, cycle, random.below(256) as u32);

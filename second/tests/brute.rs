@@ -2,8 +2,8 @@
 mod common;
 use common::writing::written;
 use common::*;
-use second::testing::generating;
 use second::testing::random::Random;
+use second::testing::{cases, generating};
 use second::{
     check_cycle, describe, read_candidate, read_text, terms, time, Body, Difference, Line, Literal, Refusal, Statement,
     Verdict, Weighted,
@@ -223,7 +223,7 @@ fn damaged_cases_end() {
     let mut random = Random::new(3);
     let mut counts: BTreeMap<u32, u32> = BTreeMap::new();
     for _ in 0..60_000 {
-        let (text, cand) = generating::case(&mut random);
+        let (text, cand) = cases::case(&mut random);
         let got = judged(&text, &cand);
         let number = match got.verdict {
             Verdict::Accepted(_) => 0,
@@ -358,7 +358,7 @@ fn loose_theories() {
     let mut random = Random::new(8);
     let mut counts = [0; 2];
     for _ in 0..60_000 {
-        let text = if random.once_in(4) { generating::case(&mut random).0 } else { generating::loose(&mut random) };
+        let text = if random.once_in(4) { cases::case(&mut random).0 } else { generating::loose(&mut random) };
         let Ok(lines) = read_text(&text) else { continue };
         let slow = slow_terms(&lines);
         counts[usize::from(slow.is_ok())] += 1;
@@ -373,7 +373,7 @@ fn reading_keeps_every_byte() {
     let mut random = Random::new(4);
     let mut read = 0;
     for _ in 0..40_000 {
-        let (text, cand) = generating::case(&mut random);
+        let (text, cand) = cases::case(&mut random);
         if let Ok(lines) = read_text(&text) {
             let again: Vec<Vec<u8>> = lines.iter().map(|l| written(&l.statement)).collect();
             assert_eq!(generating::text_of(&again), text);

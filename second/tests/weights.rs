@@ -2,8 +2,8 @@
 mod common;
 use common::writing::written;
 use common::*;
-use second::testing::generating;
 use second::testing::random::Random;
+use second::testing::{cases, generating};
 use second::{read_text, Body, Line, Literal, Refusal, Statement, Verdict, Weighted};
 use std::collections::BTreeMap;
 
@@ -97,7 +97,7 @@ fn check_rules(name: &str, generate: fn(&mut Random) -> Vec<u8>) {
 fn generated_rules() {
     check_rules("plans", generating::plan);
     check_rules("loose theories", generating::loose);
-    check_rules("cases", |random| generating::case(random).0);
+    check_rules("cases", |random| cases::case(random).0);
 }
 
 // The judging, with the line of a broken rule as its place.

@@ -1,7 +1,9 @@
 //! What the two judges are tried with and compared by: inputs that are generated or listed, their container, a printing
 //! of what was read, and the proved judge as it is linked.
 
+pub mod cases;
 pub mod container;
+pub mod damaging;
 pub mod describing;
 pub mod generating;
 pub mod plans;
