@@ -2,7 +2,7 @@
 //! times. Only with PLAN_JUDGE_LIB (see build.rs). PLAN_JUDGE_SEED chooses other inputs, PLAN_JUDGE_TIMES more of them.
 #![cfg(plan_judge)]
 mod common;
-use common::{check_heaviest, check_traps, further, judged_by, q, refused, wrap, P};
+use common::{check_crowded, check_heaviest, check_terms, check_traps, further, judged_by, q, refused, wrap, P};
 use second::judge::judging::{CYCLE_PLACES, ROOM_BYTES};
 use second::judge::timetable;
 use second::testing::damaging::damage;
@@ -30,10 +30,15 @@ fn times(n: u64) -> u64 {
 /// How often each verdict came, by its number; 0 for accepted.
 type Counts = BTreeMap<u32, u64>;
 
+// Asks for enough of some numbers.
+fn ask(counts: &Counts, wanted: &[u32], least: u64) {
+    assert!(wanted.iter().all(|n| counts.get(n).is_some_and(|c| *c >= least)), "{counts:?}");
+}
+
 // Prints the counts of a test, and asks for enough of some numbers.
 fn settle(test: &str, counts: &Counts, wanted: &[u32], least: u64) {
     println!("{test}: {} inputs, {counts:?}", counts.values().sum::<u64>());
-    assert!(wanted.iter().all(|n| counts.get(n).is_some_and(|c| *c >= least)), "{counts:?}");
+    ask(counts, wanted, least);
 }
 
 // An input as it can be pasted.
@@ -110,9 +115,13 @@ impl Both {
         let number = if let Verdict::Refused(r) = verdict { r.number } else { 0 };
         *counts.entry(number).or_default() += 1;
         let place = random.below(text.len().max(cand.len()) + 3) as u32;
-        compare_showing(text, cand, random.below(23) as u32, place);
+        compare_showing(text, cand, *random.one_of(&SHOWN), place);
     }
 }
+
+/// Numbers that a showing is asked for: those of refusals, and some that no refusal has.
+const SHOWN: [u32; 24] =
+    [0, 1, 2, 3, 4, 5, 6, 7, 8, 9, 10, 11, 12, 20, 21, 22, 60, 61, 62, 63, 64, 65, 256 + 61, u32::MAX];
 
 // Compares the showing for a number and a place.
 fn compare_showing(text: &[u8], cand: &[u8], number: u32, place: u32) {
@@ -195,6 +204,21 @@ fn other_examples() {
 fn weights() {
     check_traps(|text, cand| compare(text, cand));
     check_heaviest(|text, cand| compare(text, cand));
+}
+
+// The part of a text that the proved judge shows.
+fn shown(text: &str, number: u32, place: u32) -> String {
+    let (from, length) = proved::shown(text.as_bytes(), b"\n", number, place);
+    text[from as usize..][..length as usize].to_string()
+}
+
+#[test]
+fn terms() {
+    check_terms(|text, cand| compare(text, cand), shown);
+    check_crowded(|text, cand| compare(text, cand));
+    for place in 0..=P.len() as u32 {
+        assert_eq!(proved::shown(P.as_bytes(), b"1 2 3\n", 6, place), (0, 0));
+    }
 }
 
 #[test]
@@ -336,24 +360,21 @@ fn generated() {
         let (text, cand) = cases::case(&mut random);
         both.count(&mut random, &mut counts, &text, &cand);
     }
-    settle("generated", &counts, &[0, 3, 4, 5, 6, 7, 8, 9, 10], 100);
+    settle("generated", &counts, &[0, 3, 4, 5, 61, 62, 63, 64, 7, 8, 9, 10], 100);
 }
 
 #[test]
 fn damaged() {
     let (mut random, mut both, mut counts) = (random(3), Both::wide(13), Counts::new());
     for _ in 0..times(3_000) {
-        let (text, cand) = cases::case(&mut random);
+        let made = cases::undamaged(&mut random);
         for _ in 0..20 {
-            let (mut text, mut cand) = (text.clone(), cand.clone());
-            for _ in 0..1 + random.below(4) {
-                let bytes = if random.once_in(3) { &mut cand } else { &mut text };
-                damage(&mut random, bytes);
-            }
+            let (text, cand) = cases::damaged(&mut random, &made);
             both.count(&mut random, &mut counts, &text, &cand);
         }
     }
-    settle("damaged", &counts, &[0, 3, 4, 5, 6, 7, 8, 9, 10], 20);
+    settle("damaged", &counts, &[0, 3, 4, 5, 7, 8, 9, 10], 20);
+    ask(&counts, &[61, 62, 63, 64], counts.values().sum::<u64>() / 10);
 }
 
 // Fields of any kind in lines of any length, often with the header and the `0` line.
@@ -405,7 +426,7 @@ fn any_texts() {
         };
         both.count(&mut random, &mut counts, &text, &cand);
     }
-    settle("any texts", &counts, &[3, 4, 5, 6, 7], 50);
+    settle("any texts", &counts, &[3, 4, 5, 62, 7], 50);
 }
 
 #[test]
@@ -426,7 +447,7 @@ fn loose_theories() {
         let cand = generating::candidate(&mut random, &text);
         both.count(&mut random, &mut counts, &text, &cand);
     }
-    settle("loose theories", &counts, &[0, 6, 8], 100);
+    settle("loose theories", &counts, &[0, 61, 62, 63, 64, 8], 100);
 }
 
 #[test]

@@ -1,6 +1,7 @@
 //! The examples of document 01, and those of the requests.
 mod common;
 use common::*;
+use second::testing::plans::{unsound, Unsound};
 use second::{check_cycle, report, show, time, Refusal, Verdict};
 
 // The accepted timetable's times of the names send and recv.
@@ -75,6 +76,14 @@ fn weights() {
 }
 
 #[test]
+fn terms() {
+    check_terms(
+        |text, cand| verdict(text, cand),
+        |text, number, place| String::from_utf8(show(text.as_bytes(), b"\n", number, place).to_vec()).unwrap(),
+    );
+}
+
+#[test]
 fn a_cycle_of_one() {
     let text =
         wrap("9 1 0 4 diff\n9 1 1 1 -\n9 1 2 2 <=\n9 0 3 0\n9 2 4 1 2 3 3\n9 4 0 1 4 0\n9 0 5 -1\n9 6 7 0 1 0 2 5\n");
@@ -138,7 +147,7 @@ fn described() {
 #[test]
 fn shown() {
     let (text, cand) = (b"ab\ncd".as_slice(), b"xy\nz".as_slice());
-    for n in [3, 4, 5, 6, 8] {
+    for n in [3, 4, 5, 8, 61, 62, 63, 64] {
         assert_eq!(show(text, cand, n, 0), b"ab");
         assert_eq!(show(text, cand, n, 1), b"b");
         assert_eq!(show(text, cand, n, 2), b"");
@@ -149,7 +158,7 @@ fn shown() {
     }
     assert_eq!(show(text, cand, 7, 0), b"xy");
     assert_eq!(show(text, cand, 7, 3), b"z");
-    for n in [0, 1, 2, 9, 10, 11, 12, 20, 21, 61] {
+    for n in [0, 1, 2, 6, 9, 10, 11, 12, 20, 21, 60, 65, u32::MAX] {
         assert_eq!(show(text, cand, n, 0), b"");
     }
     assert_eq!(show(text, cand, 4, 1).as_ptr(), text[1..].as_ptr());
@@ -171,9 +180,11 @@ fn rooms() {
 
 #[test]
 fn order_of_refusals() {
-    // 6 before 7, 3 before 6, 7 before 8, 8 before 9, 9 before 10.
-    assert_eq!(verdict(wrap("9 2 0 1 0\n"), ""), refused(6, 10));
-    assert_eq!(verdict("asp 1 0 0\n9 2 0 1 0\n0\n\n", ""), refused(3, 22));
+    // 61 to 64 before 7, 3 before these, 7 before 8, 8 before 9, 9 before 10.
+    for Unsound { text, refusal, .. } in unsound() {
+        assert_eq!(verdict(&text, ""), Verdict::Refused(refusal));
+        assert_eq!(verdict(format!("{text}\n"), ""), refused(3, text.len() as u32));
+    }
     assert_eq!(verdict(wrap("1 0 0 0 0\n"), ""), refused(7, 0));
     assert_eq!(verdict(wrap("1 0 0 0 0\n"), "1\n"), refused(8, 10));
     assert_eq!(verdict(q(), "1 2 3 4\n"), refused(9, 4));

@@ -23,11 +23,13 @@ fn names_are_names() {
 fn runs_all() {
     let out = run(&pairs());
     assert!(out.starts_with("P-0\nrefused 8 36\nshown 11 49 32 48 32 49 32 51 32 48 32 48\n"));
-    for number in [2, 3, 4, 5, 6, 7, 8, 9, 10] {
+    for number in [2, 3, 4, 5, 61, 62, 63, 64, 7, 8, 9, 10] {
         assert!(out.contains(&format!("\nrefused {number} ")));
     }
     assert!(out.contains("\nP-7\naccepted 2 3\n3 0\n4 5\ntable 44 2 0 0 0 3 0 0 0 16 0 0 0 32 0 0 0 3 0 0 0 0 0 0 0 4 0 0 0 5 0 0 0 1 0 0 0 2 0 0 0 3 0 0 0\ntimes 21/0 21/1 21/2 0 5 21/5 "));
+    assert!(!out.contains("\nrefused 6 "));
     assert!(out.contains("\nQ-7\nrefused 10 2\n2 3\nshown 0\n"));
+    assert!(out.contains("\nterms-argument\nrefused 62 30\nshown 2 56 56\n"));
     assert!(out.ends_with("\nlong-60001\nrefused 2 60000\nshown 0\n"));
 }
 

@@ -1,7 +1,7 @@
 //! The decided points: reading, weights, terms, candidate, meaning.
 mod common;
 use common::*;
-use second::{read_candidate, read_text, report, terms, Refusal, Verdict};
+use second::{read_candidate, read_text, report, terms, Verdict};
 
 // The refusal of a whole text.
 fn text(bytes: impl AsRef<[u8]>) -> Option<(u32, u32)> {
@@ -24,14 +24,10 @@ fn cand(bytes: impl AsRef<[u8]>) -> Option<(u32, u32)> {
     read_candidate(bytes.as_ref()).err().map(|r| (r.number, r.place))
 }
 
-// The refusal 6 of lines, its place counted from after the header.
-fn six(statements: &str) -> Option<u32> {
+// The refusal of readable lines by 61 to 64, its place counted from after the header.
+fn unsound(statements: &str) -> Option<(u32, u32)> {
     let read = read_text(wrap(statements).as_bytes()).unwrap();
-    match terms(&read) {
-        Ok(_) => None,
-        Err(Refusal { number: 6, place }) => Some(place - 10),
-        Err(r) => panic!("{r:?}"),
-    }
+    terms(&read).err().map(|r| (r.number, r.place - 10))
 }
 
 #[test]
@@ -338,62 +334,105 @@ fn tabs_belong_to_fields() {
 const BASE: &str = "9 1 0 4 diff\n9 1 1 1 -\n9 1 2 2 <=\n9 1 3 1 a\n9 0 4 7\n9 2 5 1 2 3 4\n9 4 0 1 5 0\n";
 
 // The refusal of lines after BASE, its place counted from there.
-fn more(statements: &str) -> Option<u32> {
-    six(&format!("{BASE}{statements}")).map(|p| p - BASE.len() as u32)
+fn more(statements: &str) -> Option<(u32, u32)> {
+    unsound(&format!("{BASE}{statements}")).map(|(number, place)| (number, place - BASE.len() as u32))
 }
 
 #[test]
 fn uses() {
     assert_eq!(more("9 6 1 0 1 0 2 4\n"), None);
-    assert_eq!(more("9 2 7 1 1 7\n"), Some(0));
-    assert_eq!(more("9 2 7 7 0\n"), Some(0));
-    assert_eq!(more("9 2 7 8 0\n"), Some(0));
-    assert_eq!(more("9 2 7 -1 1 8\n"), Some(0));
+    assert_eq!(more("9 2 7 1 1 7\n"), Some((62, 10)));
+    assert_eq!(more("9 2 7 7 0\n"), Some((62, 6)));
+    assert_eq!(more("9 2 7 8 0\n"), Some((62, 6)));
+    assert_eq!(more("9 2 7 -1 1 8\n"), Some((62, 11)));
     assert_eq!(more("9 2 7 -1 0\n9 2 8 -2 0\n9 2 9 -3 0\n"), None);
     assert_eq!(more("9 2 7 4 1 5\n"), None);
-    assert_eq!(more("9 4 1 1 8 0\n"), Some(0));
+    assert_eq!(more("9 4 1 1 8 0\n"), Some((62, 8)));
     assert_eq!(more("9 4 1 0 2 55 -66\n"), None);
-    assert_eq!(more("9 4 1 2 3 8 0\n9 0 8 1\n"), Some(0));
-    assert_eq!(more("10 x\n9 6 1 8 1 0 2 4\n"), Some(5));
-    assert_eq!(more("9 6 1 0 1 1 2 4\n"), Some(0));
-    assert_eq!(more("9 6 1 0 1 0 8 4\n"), Some(0));
-    assert_eq!(more("9 6 1 0 1 0 2 8\n"), Some(0));
-    assert_eq!(more("9 6 1 0 1 0 2 8\n9 0 8 1\n"), Some(0));
-    assert_eq!(six("9 4 0 0 0\n9 2 0 -1 1 0\n"), Some(10));
+    assert_eq!(more("9 4 1 2 3 8 0\n9 0 8 1\n"), Some((62, 10)));
+    assert_eq!(more("10 x\n9 6 1 8 1 0 2 4\n"), Some((62, 11)));
+    assert_eq!(more("9 6 1 0 1 1 2 4\n"), Some((62, 10)));
+    assert_eq!(more("9 6 1 0 1 0 8 4\n"), Some((62, 12)));
+    assert_eq!(more("9 6 1 0 1 0 2 8\n"), Some((62, 14)));
+    assert_eq!(more("9 6 1 0 1 0 2 8\n9 0 8 1\n"), Some((62, 14)));
+    assert_eq!(unsound("9 4 0 0 0\n9 2 0 -1 1 0\n"), Some((62, 21)));
+}
+
+#[test]
+fn the_leftmost_use() {
+    assert_eq!(more("9 2 1000 1023 2 8 9\n"), Some((62, 9)));
+    assert_eq!(more("9 2 7 1 2 8 9\n"), Some((62, 10)));
+    assert_eq!(more("9 2 7 1 3 3 888 9\n"), Some((62, 12)));
+    assert_eq!(more("9 2 7 -2 3 4 5 6\n"), Some((62, 15)));
+    assert_eq!(more("9 4 1 3 5 8 9 1 -4096\n"), Some((62, 10)));
+    assert_eq!(more("9 5 1 8 2 9 10\n"), Some((62, 6)));
+    assert_eq!(more("9 5 4096 0 2 9 10\n"), Some((62, 13)));
+    assert_eq!(more("9 6 1 8 1 9 10 11\n"), Some((62, 6)));
+    assert_eq!(more("9 6 1 0 1 9 10 11\n"), Some((62, 10)));
+    assert_eq!(more("9 6 1 0 1 0 10 11\n"), Some((62, 12)));
+    assert_eq!(more("9 6 1 0 2 0 7 8 9\n"), Some((62, 12)));
+    check_crowded(|text, cand| verdict(text, cand));
 }
 
 #[test]
 fn twice() {
-    assert_eq!(more("9 0 4 7\n"), Some(0));
-    assert_eq!(more("9 1 4 1 a\n"), Some(0));
-    assert_eq!(more("9 2 4 -1 0\n"), Some(0));
-    assert_eq!(more("9 4 0 1 5 0\n"), Some(0));
+    assert_eq!(more("9 0 4 7\n"), Some((61, 0)));
+    assert_eq!(more("9 1 4 1 a\n"), Some((61, 0)));
+    assert_eq!(more("9 2 4 -1 0\n"), Some((61, 0)));
+    assert_eq!(more("9 4 0 1 5 0\n"), Some((61, 0)));
     assert_eq!(more("9 4 4 0 0\n9 4 5 0 0\n9 0 6 1\n9 4 6 0 0\n"), None);
-    assert_eq!(more("9 6 1 0 1 0 2 4\n9 6 1 0 1 0 2 4\n"), Some(16));
+    assert_eq!(more("9 6 1 0 1 0 2 4\n9 6 1 0 1 0 2 4\n"), Some((63, 16)));
     assert_eq!(more("9 6 1 0 1 0 2 4\n9 6 2 0 1 0 2 4\n"), None);
     assert_eq!(more("1 0 1 1 0 0\n1 0 1 1 0 0\n9 6 1 0 1 0 2 4\n4 1 a 1 1\n4 1 a 1 1\n"), None);
 }
 
 #[test]
+fn several_in_one_line() {
+    // Twice and a use.
+    assert_eq!(more("9 2 4 8 1 9\n"), Some((61, 0)));
+    assert_eq!(more("9 4 0 1 8 0\n"), Some((61, 0)));
+    // A use and a second statement; a use and no difference; all three.
+    let first = "9 6 1 0 1 0 2 4\n";
+    assert_eq!(more(&format!("{first}9 6 1 0 1 0 2 8\n")), Some((62, 30)));
+    assert_eq!(more("9 5 1 0 2 0 7\n"), Some((62, 12)));
+    assert_eq!(more(&format!("{first}9 5 1 0 2 0 7\n")), Some((62, 28)));
+    // A second statement that is no difference.
+    assert_eq!(more(&format!("{first}9 5 1 0 0\n")), Some((63, 16)));
+    assert_eq!(more(&format!("{first}9 6 1 2 2 0 0 0 3\n")), Some((63, 16)));
+    assert_eq!(more(&format!("{first}9 6 2 2 2 0 0 0 3\n")), Some((64, 16)));
+}
+
+#[test]
+fn the_first_of_several_lines() {
+    let faults = [("9 0 4 7\n", 61, 0), ("9 4 1 1 8 0\n", 62, 8), ("9 6 9 0 1 0 2 4\n", 63, 0), ("9 5 8 0 0\n", 64, 0)];
+    let first = "9 6 9 0 1 0 2 4\n";
+    for (line, number, place) in faults {
+        for (other, ..) in faults {
+            assert_eq!(more(&format!("{first}{line}{other}")), Some((number, place + first.len() as u32)));
+        }
+    }
+}
+
+#[test]
 fn differences() {
-    assert_eq!(more("9 5 1 0 1 0\n"), Some(0));
-    assert_eq!(more("9 6 1 1 1 0 2 4\n"), Some(0));
-    assert_eq!(more("9 6 1 0 0 2 4\n"), Some(0));
-    assert_eq!(more("9 6 1 0 2 0 0 2 4\n"), Some(0));
-    assert_eq!(more("9 6 1 0 1 0 1 4\n"), Some(0));
-    assert_eq!(more("9 6 1 0 1 0 2 3\n"), Some(0));
-    assert_eq!(more("9 4 1 1 5 1 1\n9 6 1 0 1 1 2 4\n"), Some(14));
-    assert_eq!(more("9 4 1 0 0\n9 6 1 0 1 1 2 4\n"), Some(10));
-    assert_eq!(more("9 4 1 2 5 5 0\n9 6 1 0 1 1 2 4\n"), Some(14));
-    assert_eq!(more("9 4 1 1 3 0\n9 6 1 0 1 1 2 4\n"), Some(12));
-    assert_eq!(more("9 2 6 1 1 3\n9 4 1 1 6 0\n9 6 1 0 1 1 2 4\n"), Some(24));
-    assert_eq!(more("9 2 6 1 3 3 3 3\n9 4 1 1 6 0\n9 6 1 0 1 1 2 4\n"), Some(28));
-    assert_eq!(more("9 2 6 2 2 3 3\n9 4 1 1 6 0\n9 6 1 0 1 1 2 4\n"), Some(26));
-    assert_eq!(more("9 2 6 -1 2 3 3\n9 4 1 1 6 0\n9 6 1 0 1 1 2 4\n"), Some(27));
-    assert_eq!(more("9 2 6 4 2 3 3\n9 4 1 1 6 0\n9 6 1 0 1 1 2 4\n"), Some(26));
+    assert_eq!(more("9 5 1 0 1 0\n"), Some((64, 0)));
+    assert_eq!(more("9 6 1 1 1 0 2 4\n"), Some((64, 0)));
+    assert_eq!(more("9 6 1 0 0 2 4\n"), Some((64, 0)));
+    assert_eq!(more("9 6 1 0 2 0 0 2 4\n"), Some((64, 0)));
+    assert_eq!(more("9 6 1 0 1 0 1 4\n"), Some((64, 0)));
+    assert_eq!(more("9 6 1 0 1 0 2 3\n"), Some((64, 0)));
+    assert_eq!(more("9 4 1 1 5 1 1\n9 6 1 0 1 1 2 4\n"), Some((64, 14)));
+    assert_eq!(more("9 4 1 0 0\n9 6 1 0 1 1 2 4\n"), Some((64, 10)));
+    assert_eq!(more("9 4 1 2 5 5 0\n9 6 1 0 1 1 2 4\n"), Some((64, 14)));
+    assert_eq!(more("9 4 1 1 3 0\n9 6 1 0 1 1 2 4\n"), Some((64, 12)));
+    assert_eq!(more("9 2 6 1 1 3\n9 4 1 1 6 0\n9 6 1 0 1 1 2 4\n"), Some((64, 24)));
+    assert_eq!(more("9 2 6 1 3 3 3 3\n9 4 1 1 6 0\n9 6 1 0 1 1 2 4\n"), Some((64, 28)));
+    assert_eq!(more("9 2 6 2 2 3 3\n9 4 1 1 6 0\n9 6 1 0 1 1 2 4\n"), Some((64, 26)));
+    assert_eq!(more("9 2 6 -1 2 3 3\n9 4 1 1 6 0\n9 6 1 0 1 1 2 4\n"), Some((64, 27)));
+    assert_eq!(more("9 2 6 4 2 3 3\n9 4 1 1 6 0\n9 6 1 0 1 1 2 4\n"), Some((64, 26)));
     assert_eq!(more("9 1 6 1 -\n9 1 7 4 diff\n9 1 8 2 <=\n9 2 9 6 2 4 4\n9 4 1 1 9 0\n9 6 1 7 1 1 8 4\n"), None);
-    assert_eq!(more("9 1 6 5 diff \n9 6 1 6 1 0 2 4\n"), Some(14));
-    assert_eq!(more("9 1 6 1 <\n9 6 1 0 1 0 6 4\n"), Some(10));
+    assert_eq!(more("9 1 6 5 diff \n9 6 1 6 1 0 2 4\n"), Some((64, 14)));
+    assert_eq!(more("9 1 6 1 <\n9 6 1 0 1 0 6 4\n"), Some((64, 10)));
 }
 
 // The differences after BASE.
@@ -411,13 +450,13 @@ fn signed_bounds() {
         [(1, 3, 4, 1_000_000), (2, 3, 4, -1_000_000)]
     );
     assert_eq!(bounds("9 1 6 1 -\n9 2 7 6 1 4\n9 6 1 0 1 0 2 7\n"), [(1, 3, 4, -7)]);
-    assert_eq!(more("9 2 6 1 1 4\n9 2 7 1 1 6\n9 6 1 0 1 0 2 7\n"), Some(24));
-    assert_eq!(more("9 2 6 1 2 4 4\n9 6 1 0 1 0 2 6\n"), Some(14));
-    assert_eq!(more("9 2 6 1 0\n9 6 1 0 1 0 2 6\n"), Some(10));
-    assert_eq!(more("9 2 6 1 1 3\n9 6 1 0 1 0 2 6\n"), Some(12));
-    assert_eq!(more("9 2 6 -1 1 4\n9 6 1 0 1 0 2 6\n"), Some(13));
-    assert_eq!(more("9 1 6 1 +\n9 2 7 6 1 4\n9 6 1 0 1 0 2 7\n"), Some(22));
-    assert_eq!(more("9 1 6 1 5\n9 6 1 0 1 0 2 6\n"), Some(10));
+    assert_eq!(more("9 2 6 1 1 4\n9 2 7 1 1 6\n9 6 1 0 1 0 2 7\n"), Some((64, 24)));
+    assert_eq!(more("9 2 6 1 2 4 4\n9 6 1 0 1 0 2 6\n"), Some((64, 14)));
+    assert_eq!(more("9 2 6 1 0\n9 6 1 0 1 0 2 6\n"), Some((64, 10)));
+    assert_eq!(more("9 2 6 1 1 3\n9 6 1 0 1 0 2 6\n"), Some((64, 12)));
+    assert_eq!(more("9 2 6 -1 1 4\n9 6 1 0 1 0 2 6\n"), Some((64, 13)));
+    assert_eq!(more("9 1 6 1 +\n9 2 7 6 1 4\n9 6 1 0 1 0 2 7\n"), Some((64, 22)));
+    assert_eq!(more("9 1 6 1 5\n9 6 1 0 1 0 2 6\n"), Some((64, 10)));
 }
 
 #[test]

@@ -15,13 +15,13 @@ use Rattle.basics.specs.Lists.{All, among}
 use Rattle.basics.proofs.Bools.{and-cases}
 use Rattle.faults.specs.Values.{number}
 use Rattle.faults.specs.declared.Kind.{Kind}
-use Rattle.faults.specs.declared.Kind.the-variants.{Room, Long, Grammar, Carried, Bounds, Terms, Candidate, Broken, Unfounded, Cycle, Late, NotTable, NotNamed}
+use Rattle.faults.specs.declared.Kind.the-variants.{Room, Long, Grammar, Carried, Bounds, Twice, Unknown, Second, NoDifference, Candidate, Broken, Unfounded, Cycle, Late, NotTable, NotNamed}
 use Rattle.faults.proofs.Kind as kind
 
 -- the kinds, in the order of the enum
 abbrev kinds : List Kind
 kinds =
-    Room ∷ Long ∷ Grammar ∷ Carried ∷ Bounds ∷ Terms ∷ Candidate ∷ Broken ∷ Unfounded ∷ Cycle ∷ Late ∷ NotTable ∷ NotNamed ∷ []
+    Room ∷ Long ∷ Grammar ∷ Carried ∷ Bounds ∷ Twice ∷ Unknown ∷ Second ∷ NoDifference ∷ Candidate ∷ Broken ∷ Unfounded ∷ Cycle ∷ Late ∷ NotTable ∷ NotNamed ∷ []
 
 -- by its tag a match knows a kind
 abbrev tag : Kind → ℕ
@@ -33,7 +33,10 @@ in-order Long = refl
 in-order Grammar = refl
 in-order Carried = refl
 in-order Bounds = refl
-in-order Terms = refl
+in-order Twice = refl
+in-order Unknown = refl
+in-order Second = refl
+in-order NoDifference = refl
 in-order Candidate = refl
 in-order Broken = refl
 in-order Unfounded = refl

@@ -2,7 +2,7 @@
 use Prim.Native.Nat.{ℕ}
 use Rattle.faults.specs.Answer.{Answer, got, refused}
 use Rattle.faults.specs.declared.Kind.{Kind}
-use Rattle.faults.specs.declared.Kind.the-variants.{Room, Long, Grammar, Carried, Bounds, Terms, Candidate, Broken, Unfounded, Cycle, Late, NotTable, NotNamed}
+use Rattle.faults.specs.declared.Kind.the-variants.{Room, Long, Grammar, Carried, Bounds, Twice, Unknown, Second, NoDifference, Candidate, Broken, Unfounded, Cycle, Late, NotTable, NotNamed}
 use Rattle.faults.specs.declared.Step.{Step}
 use Rattle.faults.specs.declared.Step.the-variants.{Good, Refused}
 
@@ -12,7 +12,10 @@ number Long = 2
 number Grammar = 3
 number Carried = 4
 number Bounds = 5
-number Terms = 6
+number Twice = 61
+number Unknown = 62
+number Second = 63
+number NoDifference = 64
 number Candidate = 7
 number Broken = 8
 number Unfounded = 9

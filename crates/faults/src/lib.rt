@@ -46,14 +46,17 @@ pub const TERM_PLACES: usize = 1024;
 // The places of a table by elements.
 pub const ELEMENT_PLACES: usize = 1024;
 
-// One case a number of the table of verdicts: 1 to 11, then 20 and 21 of the timetable's reader.
+// One case a number of the table of verdicts: 1 to 5, 61 to 64 and 7 to 11, then 20 and 21 of the timetable's reader.
 pub enum Kind {
     Room,
     Long,
     Grammar,
     Carried,
     Bounds,
-    Terms,
+    Twice,
+    Unknown,
+    Second,
+    NoDifference,
     Candidate,
     Broken,
     Unfounded,
@@ -74,7 +77,10 @@ impl Kind {
             Kind::Grammar => 3,
             Kind::Carried => 4,
             Kind::Bounds => 5,
-            Kind::Terms => 6,
+            Kind::Twice => 61,
+            Kind::Unknown => 62,
+            Kind::Second => 63,
+            Kind::NoDifference => 64,
             Kind::Candidate => 7,
             Kind::Broken => 8,
             Kind::Unfounded => 9,

@@ -1,7 +1,9 @@
 -- General laws.
 pub mod Runs
+pub mod Fieldwise
 pub mod Decimal
 pub mod Naturals
 pub mod Words
 pub mod Readers
 pub mod Taping
+pub mod Spaced

@@ -5,6 +5,7 @@ use mathlib.Core.List.{List, [], _∷_}
 use mathlib.Core.Bool.{Bool, true, false, _||_}
 use native.Mathlib.Omega.{arith}
 use native.Mathlib.Numerals.{add-one}
+use borrow.Author.Tests.{eqb-false}
 use lib.Dec.{eqb}
 use lib.ListN.{length, getD, take, drop, drop-of-length-le}
 use lib.Seq.{drop-cons}
@@ -53,3 +54,16 @@ upTo-once b (c ∷ cs) = go (eqb c b) (upTo-once b cs)
     go : (t : Bool) → upTo (isEither b b) cs ≡ upTo (λ c. eqb c b) cs → pick (t || t) [] (c ∷ upTo (isEither b b) cs) ≡ pick t [] (c ∷ upTo (λ c. eqb c b) cs)
     go true e = refl
     go false e = ap {B = List ℕ} (λ r. c ∷ r) e
+
+-- the bytes before the first x or y, where that is x, are those before the first x
+pub first-space : (x y : ℕ) (l : List ℕ) → getD l (length (upTo (isEither x y) l)) 0 ≡ x → upTo (isEither x x) l ≡ upTo (isEither x y) l
+unfolding upTo
+first-space x y [] e = refl
+first-space x y (b ∷ bs) e = go (eqb b x) refl (eqb b y) (first-space x y bs) e
+  where
+    go : (t : Bool) → eqb b x ≡ t → (u : Bool) → (getD bs (length (upTo (isEither x y) bs)) 0 ≡ x → upTo (isEither x x) bs ≡ upTo (isEither x y) bs)
+        → getD (b ∷ bs) (length (pick (t || u) [] (b ∷ upTo (isEither x y) bs))) 0 ≡ x
+        → pick (t || t) [] (b ∷ upTo (isEither x x) bs) ≡ pick (t || u) [] (b ∷ upTo (isEither x y) bs)
+    go true q u r e = refl
+    go false q true r e = absurd (eqb-false b x q e)
+    go false q false r e = ap {B = List ℕ} (λ l. b ∷ l) (r e)

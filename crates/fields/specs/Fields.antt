@@ -1,6 +1,6 @@
 -- Believed: the fields of a line, docs/RULES.md, 'Reading the text'. A field's form comes first, then whether it is carried, then its range;
 -- a separator is read before the field that follows it. Assumes nothing.
-use Prim.Native.Nat.{ℕ, zero, suc, _+_, _-_, _*_}
+use Prim.Native.Nat.{ℕ, zero, suc, _+_, _-_, _*_, min}
 use mathlib.Core.List.{List, [], _∷_}
 use mathlib.Core.Bool.{Bool, true, false, _||_, _&&_}
 use lib.ListN.{length, getD, drop}
@@ -76,6 +76,20 @@ isForbidden = isEither 0 feed
 -- a field runs to the next space, line end or end of text
 unfoldable pub field : List ℕ → ℕ → List ℕ
 field s at = upTo isSeparator (drop at s)
+
+-- ---- where the fields of a line stand, one space apart
+
+abbrev pub isSpace : ℕ → Bool
+isSpace b = eqb b space
+
+-- the place behind the first space at a place or after it; the text's end if there is none
+unfoldable pub behindSpace : List ℕ → ℕ → ℕ
+behindSpace s at = min (at + length (upTo isSpace (drop at s)) + 1) (length s)
+
+-- the place of field k, where field 0 stands at the place given
+unfoldable pub fieldPlace : List ℕ → (k at : ℕ) → ℕ
+fieldPlace s zero at = at
+fieldPlace s (suc k) at = fieldPlace s k (behindSpace s at)
 
 -- ---- naturals
 

@@ -13,9 +13,11 @@ use faults::TermNo;
 
 mod digits;
 mod number;
+mod places;
 mod tape;
 
 pub use crate::digits::run_end;
+pub use crate::places::field_place;
 
 // The space.
 pub const SPACE: u8 = 32;

@@ -11,7 +11,9 @@ use Rattle.aspif.specs.Statements.{positive, single, choice, normal, num, comp,
 use Rattle.aspif.specs.Grammar.{lineOf, heads, normalBody, literals, body, ruleLine, numericLine, stringLine, compoundLine, elementLine, front, guardedLine, theoryOf, theoryPart, statementOf, lastLine, lines, noTag, firstLine, plan, statements}
 use Rattle.aspif.specs.Candidate.{atomAbove, ending, ascending, candidateLine, candidate}
 use Rattle.terms.specs.Says.{term, elementAt}
-use Rattle.terms.specs.Terms.{Stated, taken, allDefined, sameBytes, isString, isMinus, opposite, boundOf, pairOf, pairIn, differenceOf, faulty, differencesFrom, differences}
+use Rattle.terms.specs.Terms.{Stated, taken, allDefined, sameBytes, isString, isMinus, opposite, boundOf, pairOf, pairIn, differenceOf}
+use Rattle.terms.specs.Reasons.{unknownFrom, reasonOf, differencesFrom, differences}
+use Rattle.terms.specs.inner.Tables.{States}
 use Rattle.judge.specs.Texts.{bytesOf}
 use Rattle.judge.proofs.Texts.{SaysLines, timeRules, three, stated}
 
@@ -66,9 +68,9 @@ linesWith eight c w n =
 abbrev pub statedWith : (eight w : ℕ) → List Stated
 statedWith eight w = stated 40 eight ++ (record { atom = 4; says = three w } ∷ [])
 
-differences-with : (eight c w n : ℕ) → differences (linesWith eight c w n) ≡ got (statedWith eight w)
-unfolding differences differencesFrom faulty taken term elementAt allDefined sameBytes isString isMinus opposite boundOf pairOf pairIn differenceOf
-differences-with eight c w n = refl
+differences-with : (eight c w n : ℕ) → States (linesWith eight c w n) (statedWith eight w)
+unfolding differences differencesFrom unknownFrom reasonOf taken term elementAt allDefined sameBytes isString isMinus opposite boundOf pairOf pairIn differenceOf
+differences-with eight c w n text = refl
 
 -- what each of the texts says
 pub record Texts : Type 0 where

@@ -21,7 +21,8 @@ use Rattle.diffs.specs.Diff.{Diff, Keeps, whole, Earliest}
 use Rattle.diffs.proofs.EarliestTimes.{earliest-unique}
 use Rattle.diffs.proofs.Integers.{neg-up, keeps-holds, holds-keeps}
 use Rattle.terms.specs.Says.{Says, Name}
-use Rattle.terms.specs.Terms.{Stated, differences}
+use Rattle.terms.specs.Terms.{Stated}
+use Rattle.terms.specs.inner.Tables.{States}
 use Rattle.terms.proofs.Stating.{says-listed, listed-says}
 use Rattle.stable.specs.Meaning.{firstBroken}
 use Rattle.judge.specs.Plan.{Asked, Rooms, asked, ready, readable, InForce}
@@ -65,7 +66,7 @@ more = 1 ∷ 2 ∷ 3 ∷ 4 ∷ []
 send-recv : Name (linesP 40 5 117 167) 3 × Name (linesP 40 5 117 167) 4
 send-recv = let n = two-names (old 5 167 all) 40 5 (old-texts .p .stated) .only in (n .0, n .1 .0)
 
-module _ (w n : ℕ) (said : differences (linesWith 5 179 w n) ≡ got (statedWith 5 w)) where
+module _ (w n : ℕ) (said : States (linesWith 5 179 w n) (statedWith 5 w)) where
   -- P with the further rule says these three
   which : (a : ℕ) (d : Diff) → Says (linesWith 5 179 w n) a d → (d ≡ two 40) ⊎ ((d ≡ three 5) ⊎ (d ≡ three w))
   which a d x = go (says-listed (linesWith 5 179 w n) (statedWith 5 w) said a d x)

@@ -25,3 +25,4 @@ pub mod Bitmaps
 pub mod Forced
 pub mod Settling
 pub mod Staging
+pub mod Sixes

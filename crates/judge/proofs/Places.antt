@@ -13,6 +13,7 @@ use Rattle.faults.specs.inner.Places.{termPlaces}
 use Rattle.basics.specs.Bools.{pick}
 use Rattle.basics.specs.Lists.{All}
 use Rattle.faults.specs.Answer.{Answer, got, refused, bind, mapped}
+use Rattle.fields.proofs.Fieldwise.{place-within}
 use Rattle.aspif.specs.Statements.{Line, ruleIn, theoryIn}
 use Rattle.aspif.specs.Grammar.{statements}
 use Rattle.aspif.specs.Candidate.{candidate}
@@ -20,7 +21,8 @@ use Rattle.aspif.proofs.Kept.{statements-placed, statements-refused}
 use Rattle.aspif.proofs.Candidates.{AscendingFrom, candidate-ascending, candidate-near}
 use Rattle.diffs.specs.Diff.{Diff, xsOf}
 use Rattle.diffs.proofs.Names.{pigeon}
-use Rattle.terms.specs.Terms.{Stated, statedBy, known, faulty, more, differencesFrom, differences}
+use Rattle.terms.specs.Terms.{Stated, statedBy, known, more}
+use Rattle.terms.specs.Reasons.{Reason, reasonOf, answered, differencesFrom, differences}
 use Rattle.stable.specs.Meaning.{Atoms, broken, brokenAt, firstBroken}
 use Rattle.timetable.proofs.RoundTrip.{longest}
 use Rattle.judge.specs.Plan.{Asked, Rooms, Ready, ready, lent, legible, pair, readable, InForce}
@@ -39,25 +41,25 @@ never e = let z : _≡_ {A = ℕ} 0 1 = (cc) in omega arith
 place-of : {A : Type 0} {i k q p : ℕ} → _≡_ {A = Answer A} (refused i q) (refused k p) → q ≡ p
 place-of e = (cc)
 
--- ---- lines: 6 and 8
+-- ---- lines: 61 to 64 and 8
 
 -- each line stands within a text of n bytes
 abbrev Placed : (n : ℕ) → List Line → Type 0
 Placed n ls = All (λ (l : Line). l .place < n) ls
 
--- a fault of the lines' terms stands where a line does
-differences-place : (n : ℕ) (before ls : List Line) (k p : ℕ) → Placed n ls → differencesFrom before ls ≡ refused k p → p < n
+-- what is wrong with a line stands at one of its fields
+differences-place : (text : List ℕ) (before ls : List Line) (k p : ℕ) → Placed (length text) ls → differencesFrom text before ls ≡ refused k p → p ≤ length text
 unfolding differencesFrom
-differences-place n before [] k p h e = absurd (never e)
-differences-place n before (l ∷ ls) k p h e =
-    go (faulty (known before) (theoryIn (l .says))) (statedBy (known before) (theoryIn (l .says))) (differencesFrom (before ++ (l ∷ [])) ls)
-    (differences-place n (before ++ (l ∷ [])) ls k p (h .1)) e
+differences-place text before [] k p h e = absurd (never e)
+differences-place text before (l ∷ ls) k p h e =
+    go (reasonOf (known before) (theoryIn (l .says))) (statedBy (known before) (theoryIn (l .says))) (differencesFrom text (before ++ (l ∷ [])) ls)
+    (differences-place text (before ++ (l ∷ [])) ls k p (h .1)) e
   where
-    go : (t : Bool) (f : Option Stated) (a : Answer (List Stated)) → (a ≡ refused k p → p < n) → pick t (refused 6 (l .place)) (more f a) ≡ refused k p → p < n
-    go true f a r e = omega (arith, place-of e, h .0)
-    go false (some d) (got ds) r e = absurd (never e)
-    go false (some d) (refused i q) r e = r e
-    go false none a r e = r e
+    go : (x : Option Reason) (f : Option Stated) (a : Answer (List Stated)) → (a ≡ refused k p → p ≤ length text) → answered text (l .place) x (more f a) ≡ refused k p → p ≤ length text
+    go (some x) f a r e = omega (arith, place-of e, place-within text (x .field) (l .place) (omega (arith, h .0)))
+    go none (some d) (got ds) r e = absurd (never e)
+    go none (some d) (refused i q) r e = r e
+    go none none a r e = r e
 
 -- the first broken rule stands where a line does
 broken-place : (n : ℕ) (X : Atoms) (ls : List Line) (p : ℕ) → Placed n ls → firstBroken X ls ≡ brokenAt p → p < n
@@ -81,19 +83,19 @@ lent-place b k p = go (ltb (length (b .room)) tableRoom) (ltb (length (b .cycle)
     go false true e = omega (arith, place-of e)
     go false false e = absurd (never e)
 
--- 2 to 6
+-- 2 to 5 and 61 to 64
 legible-place : (text : List ℕ) (k p : ℕ) → legible text ≡ refused k p → p ≤ longestText
 unfolding legible differences
 legible-place text k p = go (ltb longestText (length text)) (statements text) refl refl
   where
-    go₂ : (ls : List Line) → Placed (length text) ls → (a : Answer (List Stated)) → differencesFrom [] ls ≡ a → mapped (λ (ds : List Stated). ls) a ≡ refused k p → p < length text
+    go₂ : (ls : List Line) → Placed (length text) ls → (a : Answer (List Stated)) → differencesFrom text [] ls ≡ a → mapped (λ (ds : List Stated). ls) a ≡ refused k p → p ≤ length text
     go₂ ls h (got ds) d e = absurd (never e)
-    go₂ ls h (refused i q) d e = omega (arith, differences-place (length text) [] ls i q h d, place-of e)
+    go₂ ls h (refused i q) d e = omega (arith, differences-place text [] ls i q h d, place-of e)
 
     go : (w : Bool) (a : Answer (List Line)) → ltb longestText (length text) ≡ w → statements text ≡ a
-        → pick w (refused 2 longestText) (bind a (λ ls. mapped (λ (ds : List Stated). ls) (differencesFrom [] ls))) ≡ refused k p → p ≤ longestText
+        → pick w (refused 2 longestText) (bind a (λ ls. mapped (λ (ds : List Stated). ls) (differencesFrom text [] ls))) ≡ refused k p → p ≤ longestText
     go true a t s e = omega (arith, place-of e)
-    go false (got ls) t s e = omega (arith, ltb-false longestText (length text) t, go₂ ls (statements-placed text ls s) (differencesFrom [] ls) refl e)
+    go false (got ls) t s e = omega (arith, ltb-false longestText (length text) t, go₂ ls (statements-placed text ls s) (differencesFrom text [] ls) refl e)
     go false (refused i q) t s e = omega (arith, ltb-false longestText (length text) t, statements-refused text i q s .1, place-of e)
 
 -- 1 to 7

@@ -13,7 +13,10 @@ use Rattle.faults.specs.Answer.{Answer, got, refused, bind, mapped}
 use Rattle.aspif.specs.Statements.{Line}
 use Rattle.aspif.specs.Grammar.{statements}
 use Rattle.aspif.specs.Candidate.{candidate}
-use Rattle.terms.specs.Terms.{Stated, differences}
+use Rattle.terms.specs.Terms.{Stated}
+use Rattle.terms.specs.Reasons.{differences}
+use Rattle.terms.specs.inner.Tables.{States}
+use Rattle.terms.proofs.Six.{differences-got}
 use Rattle.judge.specs.Plan.{Asked, Rooms, Ready, ready, lent, legible, pair, readable}
 
 never : {A : Type 0} {k p : ℕ} {a : A} → refused k p ≡ got a → ⊥
@@ -26,7 +29,7 @@ pub record Read (a : Asked) (b : Rooms) (q : Ready) : Type 0 where
   pub short : length (a .text) ≤ longestText
   pub lines : statements (a .text) ≡ got (q .lines)
   pub stated : List Stated
-  pub sound : differences (q .lines) ≡ got stated
+  pub sound : States (q .lines) stated
   pub atoms : candidate (a .cand) ≡ got (q .atoms)
 
 -- rooms that were lent are long enough
@@ -45,21 +48,21 @@ record Legible (text : List ℕ) (ls : List Line) : Type 0 where
   short : length text ≤ longestText
   lines : statements text ≡ got ls
   stated : List Stated
-  sound : differences ls ≡ got stated
+  sound : States ls stated
 
 legible-is : (text : List ℕ) (ls : List Line) → legible text ≡ got ls → Legible text ls
 unfolding legible
 legible-is text ls = go (ltb longestText (length text)) (statements text) refl refl
   where
-    go₂ : (xs : List Line) → length text ≤ longestText → statements text ≡ got xs → (a : Answer (List Stated)) → differences xs ≡ a
+    go₂ : (xs : List Line) → length text ≤ longestText → statements text ≡ got xs → (a : Answer (List Stated)) → differences text xs ≡ a
         → mapped (λ (ds : List Stated). xs) a ≡ got ls → Legible text ls
-    go₂ xs t s (got ds) d e = let z : xs ≡ ls = (cc) in record { short = t; lines = (cc); stated = ds; sound = rw z at d }
+    go₂ xs t s (got ds) d e = let z : xs ≡ ls = (cc) in record { short = t; lines = (cc); stated = ds; sound = differences-got text ls ds (rw z at d) }
     go₂ xs t s (refused k p) d e = absurd (never e)
 
     go : (w : Bool) (a : Answer (List Line)) → ltb longestText (length text) ≡ w → statements text ≡ a
-        → pick w (refused 2 longestText) (bind a (λ xs. mapped (λ (ds : List Stated). xs) (differences xs))) ≡ got ls → Legible text ls
+        → pick w (refused 2 longestText) (bind a (λ xs. mapped (λ (ds : List Stated). xs) (differences text xs))) ≡ got ls → Legible text ls
     go true a t s e = absurd (never e)
-    go false (got xs) t s e = go₂ xs (ltb-false longestText (length text) t) s (differences xs) refl e
+    go false (got xs) t s e = go₂ xs (ltb-false longestText (length text) t) s (differences text xs) refl e
     go false (refused k p) t s e = absurd (never e)
 
 -- a plan that is readable was read
@@ -83,8 +86,8 @@ read a b q = go (lent b) (legible (a .text)) (candidate (a .cand)) refl refl ref
 -- a plan that was read is readable
 pub readable-got : (a : Asked) (b : Rooms) {ls : List Line} {ds : List Stated} {cs : List ℕ}
     → tableRoom ≤ length (b .room) → cycleRoom ≤ length (b .cycle) → length (a .text) ≤ longestText
-    → statements (a .text) ≡ got ls → differences ls ≡ got ds → candidate (a .cand) ≡ got cs
+    → statements (a .text) ≡ got ls → States ls ds → candidate (a .cand) ≡ got cs
     → readable a b ≡ got (ready ls cs)
 unfolding readable lent legible pair
 readable-got a b h g l s d c =
-    rw (le-ltb (length (b .room)) tableRoom h, le-ltb (length (b .cycle)) cycleRoom g, le-ltb longestText (length (a .text)) l, s, d, c)
+    rw (le-ltb (length (b .room)) tableRoom h, le-ltb (length (b .cycle)) cycleRoom g, le-ltb longestText (length (a .text)) l, s, d (a .text), c)

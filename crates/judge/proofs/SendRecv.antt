@@ -18,7 +18,8 @@ use Rattle.diffs.proofs.Cycles.{exclusive}
 use Rattle.diffs.proofs.EarliestTimes.{earliest-unique}
 use Rattle.diffs.proofs.Integers.{up-lt, add-up, neg-up, keeps-holds, holds-keeps}
 use Rattle.terms.specs.Says.{Name, Names}
-use Rattle.terms.specs.Terms.{Stated, differences}
+use Rattle.terms.specs.Terms.{Stated}
+use Rattle.terms.specs.inner.Tables.{States}
 use Rattle.terms.proofs.Stating.{says-listed, listed-says}
 use Rattle.timetable.specs.Table.{tableOf, recordsOf}
 use Rattle.judge.specs.Plan.{Rooms, Ready, Held, InForce}
@@ -33,7 +34,7 @@ use Rattle.judge.proofs.Texts.{two, three, stated}
 abbrev pub times : (j : ℕ) → ℕ → ℕ
 times j n = pick (eqb n 4) j 0
 
-module _ (q : Ready) (k j : ℕ) (said : differences (q .lines) ≡ got (stated k j)) where
+module _ (q : Ready) (k j : ℕ) (said : States (q .lines) (stated k j)) where
   -- an atom that says something is 2 or 3
   which : (a : ℕ) (d : Diff) → Some (λ (s : Stated). s ≡ record { atom = a; says = d }) (stated k j) → ((a ≡ 2) × (d ≡ two k)) ⊎ ((a ≡ 3) × (d ≡ three j))
   which a d (inl e) = inl (sym (ap (λ (s : Stated). s .atom) e), sym (ap (λ (s : Stated). s .says) e))

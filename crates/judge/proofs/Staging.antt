@@ -26,9 +26,11 @@ use Rattle.aspif.proofs.Kept.{in-range}
 use Rattle.aspif.proofs.Walking.{ahead-small}
 use Rattle.aspif.proofs.Candidates.{AscendingFrom, candidate-ascending}
 use Rattle.terms.specs.Says.{headed}
-use Rattle.terms.specs.Terms.{Stated, differences, external}
+use Rattle.terms.specs.Terms.{Stated, external}
+use Rattle.terms.specs.Reasons.{differences}
 use Rattle.terms.specs.inner.Values.{Within}
 use Rattle.terms.specs.inner.Marks.{MarksThose}
+use Rattle.terms.proofs.Six.{differences-got}
 use Rattle.terms.proofs.Naming.{externals-are}
 use Rattle.stable.specs.Meaning.{Atoms, Founding, unfoundedAt, FoundedBy, Broken, unbroken, brokenAt, firstBroken}
 use Rattle.stable.specs.Meaning as meaning
@@ -89,13 +91,13 @@ module _ (a : Asked) (b : Rooms) (z : Sized (b .room) (b .cycle)) (h : length (a
   unread k p e = rw (le-ltb (length (b .room)) tableRoom (z .bytes), le-ltb (length (b .cycle)) cycleRoom (z .places), le-ltb longestText (length (a .text)) h, e)
 
   module _ (ls : List Line) (e : statements (a .text) ≡ got ls) where
-    -- 6 refuses it
-    pub unsound : (k p : ℕ) → differences ls ≡ refused k p → readable a b ≡ refused k p
+    -- 61 to 64 refuse it
+    pub unsound : (k p : ℕ) → differences (a .text) ls ≡ refused k p → readable a b ≡ refused k p
     unfolding readable lent legible
     unsound k p d = rw (le-ltb (length (b .room)) tableRoom (z .bytes), le-ltb (length (b .cycle)) cycleRoom (z .places), le-ltb longestText (length (a .text)) h, e, d)
 
     -- else the candidate decides
-    pub pair-decides : (ds : List Stated) → differences ls ≡ got ds → readable a b ≡ pair ls (a .cand)
+    pub pair-decides : (ds : List Stated) → differences (a .text) ls ≡ got ds → readable a b ≡ pair ls (a .cand)
     unfolding readable lent legible
     pair-decides ds d = rw (le-ltb (length (b .room)) tableRoom (z .bytes), le-ltb (length (b .cycle)) cycleRoom (z .places), le-ltb longestText (length (a .text)) h, e, d)
 
@@ -130,13 +132,13 @@ pub record Passed (a : Asked) (tape : List ℕ) (n : ℕ) (atoms xs ys : List �
 
 pub passed : (a : Asked) {long : ℕ} {tape : List ℕ} {n : ℕ} {atoms xs ys : List ℕ} {ks : List ℤ} {m : ℕ}
     → (length (a .text) ≤ long) × (long ≤ longestText) → length tape ≡ long
-    → got (linesOf tape n) ≡ statements (a .text) → Ahead tape 0 n → got (stated m atoms xs ys ks) ≡ differences (linesOf tape n) → Within m atoms xs ys ks
+    → got (linesOf tape n) ≡ statements (a .text) → Ahead tape 0 n → got (stated m atoms xs ys ks) ≡ differences (a .text) (linesOf tape n) → Within m atoms xs ys ks
     → Passed a tape n atoms xs ys ks m
 passed a {tape = tape} {n} pre k e w d r =
     record {
       taped = w;
       short = omega (arith, pre .1);
-      stating = record { small = in-range (linesOf tape n) (ahead-small tape 0 n w); stated = sym d; roomy = r };
+      stating = record { small = in-range (linesOf tape n) (ahead-small tape 0 n w); stated = differences-got (a .text) (linesOf tape n) _ (sym d); roomy = r };
       decides = λ b z. pair-decides a b z (omega (arith, pre .0, pre .1)) (linesOf tape n) (sym e) _ (sym d);
     }
 

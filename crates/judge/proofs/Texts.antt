@@ -13,7 +13,9 @@ use Rattle.aspif.specs.Grammar.{lineOf, heads, normalBody, literals, body, rule
 use Rattle.aspif.specs.Candidate.{atomAbove, ending, ascending, candidateLine, candidate}
 use Rattle.diffs.specs.Diff.{Diff}
 use Rattle.terms.specs.Says.{term, elementAt, diffWord, minus, atMost}
-use Rattle.terms.specs.Terms.{Stated, taken, allDefined, sameBytes, isString, isMinus, opposite, boundOf, pairOf, pairIn, differenceOf, faulty, differencesFrom, differences}
+use Rattle.terms.specs.Terms.{Stated, taken, allDefined, sameBytes, isString, isMinus, opposite, boundOf, pairOf, pairIn, differenceOf}
+use Rattle.terms.specs.Reasons.{unknownFrom, reasonOf, differencesFrom, differences}
+use Rattle.terms.specs.inner.Tables.{States}
 use Rattle.judge.specs.Texts.{bytesOf, planP, planQ, planTight, planExternal, planLoop, planOdd}
 
 -- ---- candidates
@@ -39,7 +41,7 @@ candidates = record { none = refl; one = refl; three = refl; one-two = refl; one
 pub record SaysLines (text : List ℕ) (ls : List Line) (ds : List Stated) : Type 0 where
   pub short : length text ≤ longestText
   pub lines : statements text ≡ got ls
-  pub stated : differences ls ≡ got ds
+  pub stated : States ls ds
 
 abbrev line : (place : ℕ) → Statement → Line
 line p x = record { place = p; says = x }
@@ -95,21 +97,21 @@ three eight = record { x = 3; y = 4; k = negℤ (pos eight) }
 abbrev pub stated : (five eight : ℕ) → List Stated
 stated five eight = record { atom = 2; says = two five } ∷ record { atom = 3; says = three eight } ∷ []
 
-differences-P : (five eight a c : ℕ) → differences (linesP five eight a c) ≡ got (stated five eight)
-unfolding differences differencesFrom faulty taken term elementAt allDefined sameBytes isString isMinus opposite boundOf pairOf pairIn differenceOf
-differences-P five eight a c = refl
+differences-P : (five eight a c : ℕ) → States (linesP five eight a c) (stated five eight)
+unfolding differences differencesFrom unknownFrom reasonOf taken term elementAt allDefined sameBytes isString isMinus opposite boundOf pairOf pairIn differenceOf
+differences-P five eight a c text = refl
 
-differences-external : differences linesExternal ≡ got (stated 40 5)
-unfolding differences differencesFrom faulty taken term elementAt allDefined sameBytes isString isMinus opposite boundOf pairOf pairIn differenceOf
-differences-external = refl
+differences-external : States linesExternal (stated 40 5)
+unfolding differences differencesFrom unknownFrom reasonOf taken term elementAt allDefined sameBytes isString isMinus opposite boundOf pairOf pairIn differenceOf
+differences-external text = refl
 
-differences-loop : differences linesLoop ≡ got []
-unfolding differences differencesFrom faulty
-differences-loop = refl
+differences-loop : States linesLoop []
+unfolding differences differencesFrom unknownFrom reasonOf
+differences-loop text = refl
 
-differences-odd : differences linesOdd ≡ got []
-unfolding differences differencesFrom faulty
-differences-odd = refl
+differences-odd : States linesOdd []
+unfolding differences differencesFrom unknownFrom reasonOf
+differences-odd text = refl
 
 -- what each of the texts says
 pub record Texts : Type 0 where

@@ -7,6 +7,7 @@ pub mod Demand2
 pub mod Demand1
 pub mod Bounds
 pub mod Fronts
+pub mod Sixes
 pub mod Texts
 pub mod Starred
 pub mod inner

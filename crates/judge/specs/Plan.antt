@@ -14,7 +14,8 @@ use Rattle.aspif.specs.Grammar.{statements}
 use Rattle.aspif.specs.Candidate.{candidate}
 use Rattle.diffs.specs.Diff.{Diff}
 use Rattle.terms.specs.Says.{Says}
-use Rattle.terms.specs.Terms.{Stated, differences}
+use Rattle.terms.specs.Terms.{Stated}
+use Rattle.terms.specs.Reasons.{differences}
 
 -- what was asked: a plan text and a candidate
 pub record Asked : Type 0 where
@@ -50,11 +51,11 @@ lent b =
     (pick (ltb (length (b .cycle)) cycleRoom) (refused 1 cycleRoom)
     (got tt))
 
--- the text alone, 2 to 6: over 60,000 bytes; what it says; its terms
+-- the text alone, 2 to 5 and 61 to 64: over 60,000 bytes; what it says; its terms
 unfoldable pub legible : (text : List ℕ) → Answer (List Line)
 legible text =
     pick (ltb longestText (length text)) (refused 2 longestText)
-    (bind (statements text) (λ ls. mapped (λ (ds : List Stated). ls) (differences ls)))
+    (bind (statements text) (λ ls. mapped (λ (ds : List Stated). ls) (differences text ls)))
 
 -- the candidate, 7: these lines with its atoms
 unfoldable pub pair : List Line → (cand : List ℕ) → Answer Ready

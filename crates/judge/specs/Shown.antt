@@ -20,7 +20,7 @@ partFrom s place = upTo isLineEnd (drop place s)
 
 -- the numbers whose place is in the text
 abbrev pub textNumbers : List ℕ
-textNumbers = 3 ∷ 4 ∷ 5 ∷ 6 ∷ 8 ∷ []
+textNumbers = 3 ∷ 4 ∷ 5 ∷ 61 ∷ 62 ∷ 63 ∷ 64 ∷ 8 ∷ []
 
 abbrev pub inText : (number : ℕ) → Bool
 inText k = among k textNumbers

@@ -102,7 +102,7 @@ fn before_times(
     let Step::Good(n) = a else {
         return Untimed::Refused(a.refusal());
     };
-    let b = terms::collect(tape, n, atoms, xs, ys, ks);
+    let b = terms::collect(text, tape, n, atoms, xs, ys, ks);
     let Step::Good(m) = b else {
         return Untimed::Refused(b.refusal());
     };

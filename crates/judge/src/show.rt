@@ -13,7 +13,14 @@ fn in_text(kind: Kind) -> bool
     ensures { λ r. ⌜ r ≡ inText (number kind) ⌝ }
 {
     match kind {
-        Kind::Grammar | Kind::Carried | Kind::Bounds | Kind::Terms | Kind::Broken => true,
+        Kind::Grammar
+        | Kind::Carried
+        | Kind::Bounds
+        | Kind::Twice
+        | Kind::Unknown
+        | Kind::Second
+        | Kind::NoDifference
+        | Kind::Broken => true,
         _ => false,
     }
 }

@@ -11,7 +11,6 @@ use lib.Dec.{eqb}
 use lib.IntN.{ℤ, pos, negsuc, negℤ}
 use Rattle.basics.specs.Bools.{pick}
 use Rattle.basics.specs.Lists.{All, Some}
-use Rattle.faults.specs.Answer.{got}
 use Rattle.faults.specs.Limits.{largestNumber}
 use Rattle.faults.specs.inner.Places.{atomPlaces}
 use Rattle.aspif.specs.Statements.{Term, num, Theory, defines, collects, states, guard, unguarded, Line, theoryIn}
@@ -20,8 +19,8 @@ use Rattle.diffs.specs.Diff.{Diff}
 use Rattle.diffs.proofs.Names.{pigeon}
 use Rattle.aspif.proofs.Decoding.{TheoryIf, theory-small}
 use Rattle.terms.specs.Says.{orElse, termIn, term, Bound, direct, underMinus, Difference, SaysIn, Says}
-use Rattle.terms.specs.Terms.{Stated, differences, Lists}
-use Rattle.terms.specs.inner.Tables.{SmallDiff}
+use Rattle.terms.specs.Terms.{Stated, Lists}
+use Rattle.terms.specs.inner.Tables.{SmallDiff, States}
 use Rattle.terms.proofs.ByKind.{Any}
 use Rattle.terms.proofs.Differing.{never}
 use Rattle.terms.proofs.Stating.{listed-says, atoms-differ}
@@ -85,7 +84,7 @@ listed-all : (ds : List Stated) (P : Stated → Type 0) → ((a : ℕ) (d : Diff
 listed-all [] P h = tt
 listed-all (s ∷ ds) P h = (h (s .atom) (s .says) (inl refl), listed-all ds P (λ a d q. h a d (inr q)))
 
-module _ (ls : List Line) (ds : List Stated) (h : differences ls ≡ got ds) (q : AllInRange ls) where
+module _ (ls : List Line) (ds : List Stated) (h : States ls ds) (q : AllInRange ls) where
   -- every difference listed is within the bounds, and so is its atom
   pub listed-small : All (λ (s : Stated). SmallDiff (s .says) × (s .atom < atomPlaces)) ds
   listed-small = listed-all ds _ (λ a d w. says-small ls a d q (listed-says ls ds h a d w))

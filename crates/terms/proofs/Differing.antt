@@ -238,7 +238,7 @@ found-said ls p vs g u d q =
       bound-found ls u (d .k) (q .bound),
     )
 
--- the test of refusal 6 finds a difference exactly where one is said, and that one
+-- the test for 64 finds a difference exactly where one is said, and that one
 pub difference-exactly : (ls : List Line) (p : ℕ) (vs : List ℕ) (g u : ℕ) (d : Diff) → (differenceOf (term ls) (elementAt ls) p vs (guard g u) ≡ some d) ↔ Difference ls p vs g u d
 difference-exactly ls p vs g u d = (said ls p vs g u d, found-said ls p vs g u d)
 

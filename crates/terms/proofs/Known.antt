@@ -1,4 +1,4 @@
--- What was defined on the way is what the lines before define: a line that is not faulty defines no number twice.
+-- What was defined on the way is what the lines before define: a line that is sound defines no number twice.
 use Prim.Native.Nat.{ℕ}
 use mathlib.Core.Path.{_≡_, refl, sym, _∙_, fun-ext}
 use mathlib.Core.List.{List, [], _∷_, _++_}
@@ -6,13 +6,14 @@ use mathlib.Core.Bool.{Bool, true, false, _||_}
 use mathlib.Core.Option.{Option, some, none}
 use borrow.Author.Tests.{eqb-true}
 use lib.Dec.{eqb}
-use Rattle.faults.specs.Answer.{refused}
 use Rattle.basics.specs.Bools.{pick}
 use Rattle.basics.proofs.Bools.{or-assoc, or-none, or-true, or-neither}
 use Rattle.aspif.specs.Statements.{Theory, defines, collects, states, Line, theoryIn}
 use Rattle.terms.specs.Says.{orElse, termIn, term, elementIn, elementAt}
-use Rattle.terms.specs.Terms.{known, statesIn, taken, defined, faulty, statedBy, more, differencesFrom, differences}
-use Rattle.terms.specs.inner.Tables.{changed, knownWith, walk, termOn, elementOn, lookIn, elementsIn, takenIn, envOf, AllZero}
+use Rattle.terms.specs.Terms.{known, statesIn, taken, defined, unsound, statedBy, more}
+use Rattle.terms.specs.Reasons.{Reason, reasonOf, answered, differencesFrom, differences}
+use Rattle.terms.specs.inner.Tables.{changed, knownWith, walk, termOn, elementOn, lookIn, elementsIn, entered, envOf, AllZero}
+use Rattle.terms.proofs.Six.{sound-line}
 
 -- ---- more lines
 
@@ -42,7 +43,8 @@ or-nothing : {A : Type 0} (a : Option A) → orElse a none ≡ a
 or-nothing (some a) = refl
 or-nothing none = refl
 
-undefined : {A : Type 0} (a : Option A) → defined a ≡ false → a ≡ none
+-- nothing is there
+pub undefined : {A : Type 0} (a : Option A) → defined a ≡ false → a ≡ none
 undefined (some a) h = let z : _≡_ {A = Bool} true false = h in (cc)
 undefined none h = refl
 
@@ -82,9 +84,9 @@ module _ (before : List Line) (l : Line) where
   unfolding taken
   taken-with = fun-ext (λ a. taken-append before (l ∷ []) a ∙ rw (or-none (statesIn a (theoryIn (l .says)))))
 
-  -- a line that is not faulty adds what it says
-  add-known : (s : Option Theory) → theoryIn (l .says) ≡ s → faulty (known before) s ≡ false → knownWith (known before) s ≡ known (before ++ (l ∷ []))
-  unfolding knownWith faulty
+  -- a line that is sound adds what it says
+  add-known : (s : Option Theory) → theoryIn (l .says) ≡ s → unsound (known before) s ≡ false → knownWith (known before) s ≡ known (before ++ (l ∷ []))
+  unfolding knownWith unsound
   add-known (some (defines u x)) e h =
       rw (terms-with, elements-with, taken-with, e, one-more (term before) u x (undefined (term before u) (or-neither _ _ h .0)), none-more (elementAt before), none-taken (taken before))
   add-known (some (collects v x)) e h =
@@ -95,22 +97,22 @@ module _ (before : List Line) (l : Line) where
 -- ---- the walk
 
 -- the walk with what the lines before define
-walk-is : (before ls : List Line) → walk (known before) ls ≡ differencesFrom before ls
+walk-is : (text : List ℕ) (before ls : List Line) → walk text (known before) ls ≡ differencesFrom text before ls
 unfolding walk differencesFrom
-walk-is before [] = refl
-walk-is before (l ∷ ls) = go (walk-is (before ++ (l ∷ [])) ls) (faulty (known before) (theoryIn (l .says))) refl
+walk-is text before [] = refl
+walk-is text before (l ∷ ls) = go (walk-is text (before ++ (l ∷ [])) ls) (reasonOf (known before) (theoryIn (l .says))) refl
   where
-    go : walk (known (before ++ (l ∷ []))) ls ≡ differencesFrom (before ++ (l ∷ [])) ls → (b : Bool) → faulty (known before) (theoryIn (l .says)) ≡ b
-        → pick b (refused 6 (l .place)) (more (statedBy (known before) (theoryIn (l .says))) (walk (knownWith (known before) (theoryIn (l .says))) ls))
-        ≡ pick b (refused 6 (l .place)) (more (statedBy (known before) (theoryIn (l .says))) (differencesFrom (before ++ (l ∷ [])) ls))
-    go r true q = refl
-    go r false q = rw (add-known before l (theoryIn (l .says)) refl q, r)
+    go : walk text (known (before ++ (l ∷ []))) ls ≡ differencesFrom text (before ++ (l ∷ [])) ls → (x : Option Reason) → reasonOf (known before) (theoryIn (l .says)) ≡ x
+        → answered text (l .place) x (more (statedBy (known before) (theoryIn (l .says))) (walk text (knownWith (known before) (theoryIn (l .says))) ls))
+        ≡ answered text (l .place) x (more (statedBy (known before) (theoryIn (l .says))) (differencesFrom text (before ++ (l ∷ [])) ls))
+    go r (some x) q = refl
+    go r none q = rw (add-known before l (theoryIn (l .says)) refl (sound-line (known before) (theoryIn (l .says)) q), r)
 
 -- tables of zeros stand for no lines
-pub start-is : (t terms els seen : List ℕ) (ls : List Line) → AllZero terms → AllZero els → AllZero seen → walk (envOf t terms els seen) ls ≡ differences ls
-unfolding differences envOf lookIn termOn term elementsIn elementOn elementAt takenIn taken
-start-is t terms els seen ls a b c =
+pub start-is : (text t terms els seen : List ℕ) (ls : List Line) → AllZero terms → AllZero els → AllZero seen → walk text (envOf t terms els seen) ls ≡ differences text ls
+unfolding differences envOf lookIn termOn term elementsIn elementOn elementAt entered taken
+start-is text t terms els seen ls a b c =
     let x : lookIn t terms ≡ term [] = fun-ext (λ u. rw (a .zero-at u)) in
     let y : elementsIn t els ≡ elementAt [] = fun-ext (λ v. rw (b .zero-at v)) in
-    let z : takenIn seen ≡ taken [] = fun-ext (λ i. rw (c .zero-at i)) in
-    rw (x, y, z) (walk-is [] ls)
+    let z : entered seen ≡ taken [] = fun-ext (λ i. rw (c .zero-at i)) in
+    rw (x, y, z) (walk-is text [] ls)

@@ -1,9 +1,11 @@
 -- General laws.
 pub mod Signs
+pub mod Ways
+pub mod Six
 pub mod ByKind
 pub mod Strings
 pub mod Reading
-pub mod Uses
+pub mod Using
 pub mod Known
 pub mod Differing
 pub mod Turns
@@ -12,3 +14,5 @@ pub mod Stating
 pub mod Bounds
 pub mod Marking
 pub mod Naming
+pub mod Placing
+pub mod Pointing

@@ -16,7 +16,6 @@ use Rattle.basics.specs.inner.Bitmaps.{marks, isMarked}
 use Rattle.basics.proofs.Bools.{or-cases, or-right, or-true, picked}
 use Rattle.basics.proofs.Lists.{all-so}
 use Rattle.basics.proofs.Bitmaps.{first-in, marked-holds}
-use Rattle.faults.specs.Answer.{got}
 use Rattle.faults.specs.inner.Places.{atomPlaces, termPlaces}
 use Rattle.aspif.specs.Statements.{Theory, defines, collects, states, Line, theoryIn}
 use Rattle.aspif.specs.inner.Words.{word}
@@ -24,8 +23,8 @@ use Rattle.aspif.specs.inner.Kept.{AllInRange}
 use Rattle.diffs.specs.Diff.{Diff}
 use Rattle.aspif.proofs.Decoding.{TheoryIf, theory-small}
 use Rattle.terms.specs.Says.{Name, Names, headed}
-use Rattle.terms.specs.Terms.{Stated, differences, Lists, statesIn, taken, external}
-use Rattle.terms.specs.inner.Tables.{heldAt, tabulated}
+use Rattle.terms.specs.Terms.{Stated, Lists, statesIn, taken, external}
+use Rattle.terms.specs.inner.Tables.{heldAt, tabulated, States}
 use Rattle.terms.specs.inner.Marks.{MarksThose, atomsIn, xsIn, ysIn, naming}
 use Rattle.terms.proofs.ByKind.{Any}
 use Rattle.terms.proofs.Stating.{says-listed, listed-says, atoms-taken}
@@ -79,7 +78,7 @@ found-in g (s ∷ ds) a d q =
 
 -- ---- names
 
-module _ (ls : List Line) (ds : List Stated) (h : differences ls ≡ got ds) where
+module _ (ls : List Line) (ds : List Stated) (h : States ls ds) where
   -- a number that stands as x or y in the list is a name
   naming-name : (n : ℕ) → naming ds n ≡ true → Name ls n
   naming-name n q =
@@ -137,7 +136,7 @@ marked-within (b ∷ x) (suc n) h = omega (arith, marked-within x n h)
 
 -- ---- the bitmaps of the code
 
-module _ (ls : List Line) (atoms xs ys : List ℕ) (ks : List ℤ) (m : ℕ) (h : differences ls ≡ got (tabulated m (heldAt atoms xs ys ks))) where
+module _ (ls : List Line) (atoms xs ys : List ℕ) (ks : List ℤ) (m : ℕ) (h : States ls (tabulated m (heldAt atoms xs ys ks))) where
   -- what `mark_names` marks are the names, ascending
   pub names-are : (names : List ℕ) → AllInRange ls → m ≤ length xs → m ≤ length ys
       → MarksThose termPlaces names (λ n. among n (take m xs) || among n (take m ys)) → Names ls (marks 0 names)

@@ -1,9 +1,9 @@
--- Where no line is faulty, the list of differences is what the lines say: each line's difference is found in the lines before it, and more lines change nothing.
+-- Where no line is unsound, the list of differences is what the lines say: each line's difference is found in the lines before it, and more lines change nothing.
 use Prim.Native.Nat.{ℕ}
 use mathlib.Core.Path.{_≡_, refl, sym, ap, _∙_}
 use mathlib.Core.Logic.{_⊎_, inl, inr, ⊎-elim}
 use mathlib.Core.List.{List, [], _∷_, _++_, append-assoc, map}
-use mathlib.Core.Bool.{Bool, true, false, _||_, not}
+use mathlib.Core.Bool.{false, _||_, not}
 use mathlib.Core.Option.{Option, some, none}
 use native.Mathlib.Omega.{arith}
 use borrow.Author.Tests.{eqb-false}
@@ -12,28 +12,30 @@ use Rattle.faults.specs.Answer.{Answer, got, refused}
 use Rattle.aspif.specs.Statements.{Guard, unguarded, guard, Theory, defines, collects, states, Line, theoryIn}
 use Rattle.diffs.specs.Diff.{Diff}
 use Rattle.terms.specs.Says.{term, elementAt, Difference, SaysIn, Says}
-use Rattle.basics.specs.Bools.{pick}
 use Rattle.basics.specs.Lists.{All, NotIn, Distinct, Some, among}
 use Rattle.basics.proofs.Bools.{or-neither}
 use Rattle.basics.proofs.Lists.{all-so}
-use Rattle.terms.specs.Terms.{statesIn, known, taken, defined, differenceOf, undefinedUse, notDifference, faulty, Stated, statedBy, more, differencesFrom, differences, Lists}
+use Rattle.terms.specs.Terms.{statesIn, known, taken, defined, differenceOf, undefinedUse, notDifference, unsound, Stated, statedBy, more, Lists}
+use Rattle.terms.specs.Reasons.{Reason, reasonOf, answered, differencesFrom, differences}
+use Rattle.terms.specs.inner.Tables.{States}
+use Rattle.terms.proofs.Six.{sound-line}
 use Rattle.terms.proofs.Known.{taken-append}
 use Rattle.terms.proofs.Differing.{said, unsaid, said-more, said-one}
 
--- ---- a line that is not faulty
+-- ---- a line that is sound
 
 there : {A : Type 0} (x : Option A) → not (defined x) ≡ false → (a : A) × (x ≡ some a)
 there (some a) h = (a, refl)
 there none h = let z : _≡_ {A = ℕ} 0 1 = (cc) in absurd (omega arith)
 
--- a theory atom that is not faulty states a difference, and its atom was not taken
+-- a theory atom that is sound states a difference, and its atom was not taken
 record Fine (before : List Line) (a p : ℕ) (vs : List ℕ) (g : Guard) : Type 0 where
   diff : Diff
   is : differenceOf (term before) (elementAt before) p vs g ≡ some diff
   fresh : taken before a ≡ false
 
-fine : (before : List Line) (a p : ℕ) (vs : List ℕ) (g : Guard) → faulty (known before) (some (states a p vs g)) ≡ false → Fine before a p vs g
-unfolding faulty
+fine : (before : List Line) (a p : ℕ) (vs : List ℕ) (g : Guard) → unsound (known before) (some (states a p vs g)) ≡ false → Fine before a p vs g
+unfolding unsound
 fine before a p vs g h =
     let o = or-neither (undefinedUse (known before) (some (states a p vs g))) _ h .1 in
     let q = or-neither (taken before a) (notDifference (known before) (some (states a p vs g))) o in
@@ -43,10 +45,10 @@ fine before a p vs g h =
 -- ---- one turn of the list
 
 -- what an answer that was got says of the line and of the lines behind it
-record Turn (before : List Line) (l : Line) (ls : List Line) (ds : List Stated) : Type 0 where
-  fair : faulty (known before) (theoryIn (l .says)) ≡ false
+record Turn (text : List ℕ) (before : List Line) (l : Line) (ls : List Line) (ds : List Stated) : Type 0 where
+  fair : unsound (known before) (theoryIn (l .says)) ≡ false
   rest : List Stated
-  behind : differencesFrom (before ++ (l ∷ [])) ls ≡ got rest
+  behind : differencesFrom text (before ++ (l ∷ [])) ls ≡ got rest
   whole : more (statedBy (known before) (theoryIn (l .says))) (got rest) ≡ got ds
 
 got-more : (x : Option Stated) (r : Answer (List Stated)) (ds : List Stated) → more x r ≡ got ds → (es : List Stated) × (r ≡ got es)
@@ -54,17 +56,17 @@ got-more none r ds h = (ds, h)
 got-more (some d) (got es) ds h = (es, refl)
 got-more (some d) (refused k p) ds h = let z : _≡_ {A = ℕ} 0 1 = (cc) in absurd (omega arith)
 
-turn : (before : List Line) (l : Line) (ls : List Line) (ds : List Stated) → differencesFrom before (l ∷ ls) ≡ got ds → Turn before l ls ds
+turn : (text : List ℕ) (before : List Line) (l : Line) (ls : List Line) (ds : List Stated) → differencesFrom text before (l ∷ ls) ≡ got ds → Turn text before l ls ds
 unfolding differencesFrom
-turn before l ls ds = go (faulty (known before) (theoryIn (l .says))) refl
+turn text before l ls ds = go (reasonOf (known before) (theoryIn (l .says))) refl
   where
-    go : (b : Bool) → faulty (known before) (theoryIn (l .says)) ≡ b
-        → pick b (refused 6 (l .place)) (more (statedBy (known before) (theoryIn (l .says))) (differencesFrom (before ++ (l ∷ [])) ls)) ≡ got ds
-        → Turn before l ls ds
-    go true q h = let z : _≡_ {A = ℕ} 0 1 = (cc) in absurd (omega arith)
-    go false q h =
-        let m = got-more (statedBy (known before) (theoryIn (l .says))) (differencesFrom (before ++ (l ∷ [])) ls) ds h in
-        record { fair = q; rest = m .0; behind = m .1; whole = rw (m .1) at h }
+    go : (x : Option Reason) → reasonOf (known before) (theoryIn (l .says)) ≡ x
+        → answered text (l .place) x (more (statedBy (known before) (theoryIn (l .says))) (differencesFrom text (before ++ (l ∷ [])) ls)) ≡ got ds
+        → Turn text before l ls ds
+    go (some x) q h = let z : _≡_ {A = ℕ} 0 1 = (cc) in absurd (omega arith)
+    go none q h =
+        let m = got-more (statedBy (known before) (theoryIn (l .says))) (differencesFrom text (before ++ (l ∷ [])) ls) ds h in
+        record { fair = sound-line (known before) (theoryIn (l .says)) q; rest = m .0; behind = m .1; whole = rw (m .1) at h }
 
 -- ---- what is listed is what is said
 
@@ -91,7 +93,7 @@ module _ (whole before ms : List Line) (e : before ++ ms ≡ whole) (a : ℕ) (d
   whole-said : {p : ℕ} {vs : List ℕ} {g u : ℕ} {x : Diff} → Difference before p vs g u x → Difference whole p vs g u x
   whole-said q = rw (← e) (said-more before ms q)
 
-  head-listed : (s : Option Theory) → faulty (known before) s ≡ false → more (statedBy (known before) s) (got rest) ≡ got ds → SaysIn whole a d s → Lists ds a d
+  head-listed : (s : Option Theory) → unsound (known before) s ≡ false → more (statedBy (known before) s) (got rest) ≡ got ds → SaysIn whole a d s → Lists ds a d
   head-listed (some (defines u t)) f h q = absurd q
   head-listed (some (collects v x)) f h q = absurd q
   head-listed (some (states b p vs unguarded)) f h q = absurd q
@@ -102,7 +104,7 @@ module _ (whole before ms : List Line) (e : before ++ ms ≡ whole) (a : ℕ) (d
       rw (← y) (inl (stated-eq a b d (k .diff) (q .0) o))
   head-listed none f h q = absurd q
 
-  list-said : (s : Option Theory) → faulty (known before) s ≡ false → more (statedBy (known before) s) (got rest) ≡ got ds → Lists ds a d → SaysIn whole a d s ⊎ Lists rest a d
+  list-said : (s : Option Theory) → unsound (known before) s ≡ false → more (statedBy (known before) s) (got rest) ≡ got ds → Lists ds a d → SaysIn whole a d s ⊎ Lists rest a d
   list-said (some (defines u t)) f h q = inr (rw (got-is h) q)
   list-said (some (collects v x)) f h q = inr (rw (got-is h) q)
   list-said (some (states b p vs unguarded)) f h q = let k = fine before b p vs unguarded f in absurd (unsaid (term before) (elementAt before) p vs (k .diff) (k .is))
@@ -116,34 +118,34 @@ module _ (whole before ms : List Line) (e : before ++ ms ≡ whole) (a : ℕ) (d
 one-more : (before : List Line) (l : Line) (ls whole : List Line) → before ++ (l ∷ ls) ≡ whole → (before ++ (l ∷ [])) ++ ls ≡ whole
 one-more before l ls whole e = append-assoc before (l ∷ []) ls ∙ e
 
-listed-from : (whole before ls : List Line) (ds : List Stated) (a : ℕ) (d : Diff) → before ++ ls ≡ whole → differencesFrom before ls ≡ got ds
+listed-from : (text : List ℕ) (whole before ls : List Line) (ds : List Stated) (a : ℕ) (d : Diff) → before ++ ls ≡ whole → differencesFrom text before ls ≡ got ds
     → Some (λ (l : Line). SaysIn whole a d (theoryIn (l .says))) ls → Lists ds a d
-listed-from whole before [] ds a d e h q = absurd q
-listed-from whole before (l ∷ ls) ds a d e h q =
-    let t = turn before l ls ds h in
+listed-from text whole before [] ds a d e h q = absurd q
+listed-from text whole before (l ∷ ls) ds a d e h q =
+    let t = turn text before l ls ds h in
     ⊎-elim (λ w. head-listed whole before (l ∷ ls) e a d (t .rest) ds (theoryIn (l .says)) (t .fair) (t .whole) w)
-    (λ w. later (statedBy (known before) (theoryIn (l .says))) (t .rest) ds a d (t .whole) (listed-from whole (before ++ (l ∷ [])) ls (t .rest) a d (one-more before l ls whole e) (t .behind) w))
+    (λ w. later (statedBy (known before) (theoryIn (l .says))) (t .rest) ds a d (t .whole) (listed-from text whole (before ++ (l ∷ [])) ls (t .rest) a d (one-more before l ls whole e) (t .behind) w))
     q
 
-said-from : (whole before ls : List Line) (ds : List Stated) (a : ℕ) (d : Diff) → before ++ ls ≡ whole → differencesFrom before ls ≡ got ds
+said-from : (text : List ℕ) (whole before ls : List Line) (ds : List Stated) (a : ℕ) (d : Diff) → before ++ ls ≡ whole → differencesFrom text before ls ≡ got ds
     → Lists ds a d → Some (λ (l : Line). SaysIn whole a d (theoryIn (l .says))) ls
 unfolding differencesFrom
-said-from whole before [] ds a d e h q = rw (← got-is h) at q
-said-from whole before (l ∷ ls) ds a d e h q =
-    let t = turn before l ls ds h in
-    ⊎-elim (λ w. inl w) (λ w. inr (said-from whole (before ++ (l ∷ [])) ls (t .rest) a d (one-more before l ls whole e) (t .behind) w))
+said-from text whole before [] ds a d e h q = rw (← got-is h) at q
+said-from text whole before (l ∷ ls) ds a d e h q =
+    let t = turn text before l ls ds h in
+    ⊎-elim (λ w. inl w) (λ w. inr (said-from text whole (before ++ (l ∷ [])) ls (t .rest) a d (one-more before l ls whole e) (t .behind) w))
     (list-said whole before (l ∷ ls) e a d (t .rest) ds (theoryIn (l .says)) (t .fair) (t .whole) q)
 
-module _ (ls : List Line) (ds : List Stated) (h : differences ls ≡ got ds) where
+module _ (ls : List Line) (ds : List Stated) (h : States ls ds) where
   -- what an atom says is listed
   pub says-listed : (a : ℕ) (d : Diff) → Says ls a d → Lists ds a d
   unfolding differences
-  says-listed a d q = listed-from ls [] ls ds a d refl h q
+  says-listed a d q = listed-from [] ls [] ls ds a d refl (h []) q
 
   -- what is listed, an atom says
   pub listed-says : (a : ℕ) (d : Diff) → Lists ds a d → Says ls a d
   unfolding differences
-  listed-says a d q = said-from ls [] ls ds a d refl h q
+  listed-says a d q = said-from [] ls [] ls ds a d refl (h []) q
 
 -- ---- an atom says one difference
 
@@ -167,7 +169,7 @@ module _ (before : List Line) (l : Line) (rest ds : List Stated) (r : Apart (bef
   same-apart : got rest ≡ got ds → Apart before ds
   same-apart h = rw (← got-is h) (record { fresh = still-fresh; distinct = r .distinct })
 
-  more-apart : (s : Option Theory) → theoryIn (l .says) ≡ s → faulty (known before) s ≡ false → more (statedBy (known before) s) (got rest) ≡ got ds → Apart before ds
+  more-apart : (s : Option Theory) → theoryIn (l .says) ≡ s → unsound (known before) s ≡ false → more (statedBy (known before) s) (got rest) ≡ got ds → Apart before ds
   unfolding taken
   more-apart (some (defines u t)) p f h = same-apart h
   more-apart (some (collects v x)) p f h = same-apart h
@@ -178,17 +180,17 @@ module _ (before : List Line) (l : Line) (rest ds : List Stated) (r : Apart (bef
       (record { fresh = (k .fresh, still-fresh); distinct = (not-atom b rest (all-so (λ (s : Stated) w. rw p at (untaken before l (s .atom) w .1)) rest (r .fresh)), r .distinct) })
   more-apart none p f h = same-apart h
 
-apart-from : (before ls : List Line) (ds : List Stated) → differencesFrom before ls ≡ got ds → Apart before ds
+apart-from : (text : List ℕ) (before ls : List Line) (ds : List Stated) → differencesFrom text before ls ≡ got ds → Apart before ds
 unfolding differencesFrom
-apart-from before [] ds h = rw (← got-is h) (record { fresh = tt; distinct = tt })
-apart-from before (l ∷ ls) ds h =
-    let t = turn before l ls ds h in
-    more-apart before l (t .rest) ds (apart-from (before ++ (l ∷ [])) ls (t .rest) (t .behind)) (theoryIn (l .says)) refl (t .fair) (t .whole)
+apart-from text before [] ds h = rw (← got-is h) (record { fresh = tt; distinct = tt })
+apart-from text before (l ∷ ls) ds h =
+    let t = turn text before l ls ds h in
+    more-apart before l (t .rest) ds (apart-from text (before ++ (l ∷ [])) ls (t .rest) (t .behind)) (theoryIn (l .says)) refl (t .fair) (t .whole)
 
 -- no two differences listed have the same atom
-pub atoms-differ : (ls : List Line) (ds : List Stated) → differences ls ≡ got ds → Distinct (map (λ (s : Stated). s .atom) ds)
+pub atoms-differ : (ls : List Line) (ds : List Stated) → States ls ds → Distinct (map (λ (s : Stated). s .atom) ds)
 unfolding differences
-atoms-differ ls ds h = apart-from [] ls ds h .distinct
+atoms-differ ls ds h = apart-from [] [] ls ds (h []) .distinct
 
 not-listed : (a : ℕ) (d : Diff) (ds : List Stated) → NotIn a (map (λ (s : Stated). s .atom) ds) → Lists ds a d → ⊥
 not-listed a d [] n q = q
@@ -206,13 +208,13 @@ lists-one a d e (s ∷ ds) k p q =
     p
 
 -- an atom says at most one difference
-pub says-one : (ls : List Line) (ds : List Stated) → differences ls ≡ got ds → (a : ℕ) (d e : Diff) → Says ls a d → Says ls a e → d ≡ e
+pub says-one : (ls : List Line) (ds : List Stated) → States ls ds → (a : ℕ) (d e : Diff) → Says ls a d → Says ls a e → d ≡ e
 says-one ls ds h a d e p q = lists-one a d e ds (atoms-differ ls ds h) (says-listed ls ds h a d p) (says-listed ls ds h a e q)
 
 -- ---- the atoms listed are those that have a theory statement
 
 more-taken : (before : List Line) (s : Option Theory) (rest ds : List Stated) (ls : List Line) (a : ℕ)
-    → faulty (known before) s ≡ false → more (statedBy (known before) s) (got rest) ≡ got ds
+    → unsound (known before) s ≡ false → more (statedBy (known before) s) (got rest) ≡ got ds
     → among a (map (λ (x : Stated). x .atom) rest) ≡ taken ls a
     → among a (map (λ (x : Stated). x .atom) ds) ≡ statesIn a s || taken ls a
 more-taken before (some (defines u t)) rest ds ls a h w e = rw (← got-is w) e
@@ -223,14 +225,14 @@ more-taken before (some (states b p vs g)) rest ds ls a h w e =
     rw (← d, e)
 more-taken before none rest ds ls a h w e = rw (← got-is w) e
 
-taken-from : (before ls : List Line) (ds : List Stated) → differencesFrom before ls ≡ got ds → (a : ℕ) → among a (map (λ (x : Stated). x .atom) ds) ≡ taken ls a
+taken-from : (text : List ℕ) (before ls : List Line) (ds : List Stated) → differencesFrom text before ls ≡ got ds → (a : ℕ) → among a (map (λ (x : Stated). x .atom) ds) ≡ taken ls a
 unfolding differencesFrom taken
-taken-from before [] ds h a = rw (← got-is h)
-taken-from before (l ∷ ls) ds h a =
-    let t = turn before l ls ds h in
-    more-taken before (theoryIn (l .says)) (t .rest) ds ls a (t .fair) (t .whole) (taken-from (before ++ (l ∷ [])) ls (t .rest) (t .behind) a)
+taken-from text before [] ds h a = rw (← got-is h)
+taken-from text before (l ∷ ls) ds h a =
+    let t = turn text before l ls ds h in
+    more-taken before (theoryIn (l .says)) (t .rest) ds ls a (t .fair) (t .whole) (taken-from text (before ++ (l ∷ [])) ls (t .rest) (t .behind) a)
 
 -- an atom is listed exactly if it has a theory statement
-pub atoms-taken : (ls : List Line) (ds : List Stated) → differences ls ≡ got ds → (a : ℕ) → among a (map (λ (x : Stated). x .atom) ds) ≡ taken ls a
+pub atoms-taken : (ls : List Line) (ds : List Stated) → States ls ds → (a : ℕ) → among a (map (λ (x : Stated). x .atom) ds) ≡ taken ls a
 unfolding differences
-atoms-taken ls ds h a = taken-from [] ls ds h a
+atoms-taken ls ds h a = taken-from [] [] ls ds (h []) a

@@ -2,34 +2,36 @@
 use Prim.Native.Nat.{ℕ, zero, suc, _+_, _*_, _≤_, _<_}
 use mathlib.Core.Path.{_≡_, refl, sym, _∙_, fun-ext}
 use mathlib.Core.List.{List, [], _∷_, append-assoc}
-use mathlib.Core.Bool.{Bool, true, false, _&&_, not}
+use mathlib.Core.Bool.{Bool, true, false, not}
 use mathlib.Core.Option.{Option, some, none}
 use native.Mathlib.Omega.{arith}
 use native.Mathlib.Numerals.{add-one}
-use borrow.Author.Tests.{eqb-true, eqb-false}
+use borrow.Author.Tests.{eq-eqb, ne-eqb, eqb-true, eqb-false}
 use lib.ListN.{length, getD, set}
 use lib.Seq.{getD-set-same, getD-set-other}
 use lib.Dec.{eqb}
 use lib.IntN.{ℤ, pos}
 use Rattle.basics.specs.Bools.{pick}
-use Rattle.basics.proofs.Bools.{or-true}
 use Rattle.faults.specs.Answer.{Answer, got, refused}
 use Rattle.faults.specs.declared.Step.the-variants.{Good, Refused}
 use Rattle.faults.specs.declared.Refusal.{Refusal}
-use Rattle.aspif.specs.Statements.{Term, Element, Guard, unguarded, guard, defines, collects, states, Statement, rule, output, theory, comment, theoryIn}
+use Rattle.aspif.specs.Statements.{Term, Element, unguarded, guard, Theory, defines, collects, states, Statement, rule, output, theory, comment, theoryIn}
+use Rattle.fields.specs.Fields.{fieldPlace}
 use Rattle.aspif.specs.inner.Words.{wordsOf, word, saysAt, after}
 use Rattle.aspif.specs.inner.Kept.{LineOn}
 use Rattle.aspif.proofs.Walking.{size-is}
 use Rattle.diffs.specs.Diff.{Diff}
-use Rattle.terms.specs.Says.{diffWord, atMost}
-use Rattle.terms.specs.Terms.{defined, allDefined, isString, boundOf, Pair, pairIn, joined, differenceOf, guardUses, Stated, faulty, more}
-use Rattle.terms.specs.inner.Tables.{roleOf, termOf, elementOf, termOn, elementOn, lookIn, elementsIn, takenIn, envOf, differenceIn, statedOn, changed, knownWith, walk, heldAt, tabulated, gather}
+use Rattle.terms.specs.Terms.{Env, defined, differenceOf, twice, second, notDifference, Stated, more}
+use Rattle.terms.specs.Reasons.{unknownUse, reason, reasonOf}
+use Rattle.terms.specs.inner.Tables.{roleOf, termOf, elementOf, termOn, elementOn, lookIn, elementsIn, entered, envOf, differenceIn, statedOn, changed, knownWith, walk, heldAt, tabulated, gather}
 use Rattle.terms.specs.inner.Values.{differenceWords, Roomy, asTurn, Lasting, Turned, RoomFor, Stored}
 use Rattle.terms.specs.declared.lines.Turn.{Turn}
 use Rattle.terms.specs.declared.lines.Role.the-variants as role
 use Rattle.terms.specs.declared.lines.Turn.the-variants as turn
 use Rattle.terms.proofs.ByKind.{role-does}
-use Rattle.terms.proofs.Differing.{never, picked, string-is, joined-is}
+use Rattle.terms.proofs.Ways.{reason-twice, reason-unknown, reason-second, reason-no-difference, reason-none}
+use Rattle.terms.proofs.Reading.{known-if, collected-if}
+use Rattle.terms.proofs.Differing.{never}
 
 -- ---- what entering a number does
 
@@ -51,16 +53,19 @@ module _ (t : List ℕ) (q : ℕ) where
   unfolding elementsIn elementOn
   elements-entered els u h = enter (elementOn t) els u (q + 1) h ∙ rw add-one
 
-seen-entered : (seen : List ℕ) (u : ℕ) → u < length seen → takenIn (set seen u 1) ≡ changed (takenIn seen) u true
-unfolding takenIn
+seen-entered : (seen : List ℕ) (u : ℕ) → u < length seen → entered (set seen u 1) ≡ changed (entered seen) u true
+unfolding entered
 seen-entered seen u h = enter (λ e. not (eqb e 0)) seen u 1 h
 
 -- ---- a line's turn
 
 module _ (t terms els seen : List ℕ) (p : ℕ) where
-  -- whether the line at p is faulty
-  abbrev fault : Bool
-  fault = faulty (envOf t terms els seen) (theoryIn (saysAt t (p + 2)))
+  -- what is known before the line at p, and what it states
+  abbrev here : Env
+  here = envOf t terms els seen
+
+  abbrev stating : Option Theory
+  stating = theoryIn (saysAt t (p + 2))
 
   stopped : (r : Turn) {k q : ℕ} → asTurn r ≡ refused k q → Lasting r t p
   stopped turn.Goes e = tt
@@ -68,51 +73,50 @@ module _ (t terms els seen : List ℕ) (p : ℕ) where
   stopped (turn.Refused x) e = tt
 
   -- a line that is refused ends the walk
-  pub turn-refused : (r : Turn) → asTurn r ≡ refused 6 (word t p) → true ≡ fault → Turned t p terms els seen r terms els seen
+  pub turn-refused : (text : List ℕ) (r : Turn) (k f : ℕ) → asTurn r ≡ refused k (fieldPlace text f (word t p)) → reason k f ≡ reasonOf here stating → Turned text t p terms els seen r terms els seen
   unfolding walk
-  turn-refused r e b = record { goes = λ ls. rw (e, ← b); lasts = stopped r e }
+  turn-refused text r k f e b = record { goes = λ ls. rw (e, ← b); lasts = stopped r e }
 
-  pub term-turned : roleOf (word t (p + 2)) ≡ role.Term → (u : ℕ) (terms′ : List ℕ) → false ≡ fault → u ≡ word t (p + 2 + 1) → u < length terms → terms′ ≡ set terms u (p + 2 + 1)
-      → Turned t p terms els seen turn.Goes terms′ els seen
-  unfolding walk knownWith envOf
-  term-turned r u terms′ b eu l e =
-      let d = rw r at (role-does t (p + 2)) in
-      record { goes = λ ls. rw (← b, e, terms-entered t (p + 2) terms u l, d .1, eu); lasts = tt }
+  -- a line that defines a number: e is the entry that it has already, or 0
+  module _ (e : ℕ) (before : not (eqb e 0) ≡ twice here stating) where
+    pub defined-twice : (e ≡ 0 → ⊥) → reason 61 0 ≡ reasonOf here stating
+    defined-twice z = reason-twice here stating (rw (ne-eqb e 0 z) at before)
 
-  pub element-turned : roleOf (word t (p + 2)) ≡ role.Element → (v : ℕ) (els′ : List ℕ) → false ≡ fault → v ≡ word t (p + 2 + 1) → v < length els → els′ ≡ set els v (p + 2 + 1)
-      → Turned t p terms els seen turn.Goes terms els′ seen
-  unfolding walk knownWith envOf
-  element-turned r v els′ b ev l e =
-      let d = rw r at (role-does t (p + 2)) in
-      record { goes = λ ls. rw (← b, e, elements-entered t (p + 2) els v l, d .1, ev); lasts = tt }
+    pub defined-unknown : e ≡ 0 → (x : Option ℕ) (f : ℕ) → x ≡ some f → x ≡ unknownUse here stating → reason 62 f ≡ reasonOf here stating
+    defined-unknown z = reason-unknown here stating (rw (eq-eqb e 0 z) at before)
 
-  pub other-turned : roleOf (word t (p + 2)) ≡ role.Other → Turned t p terms els seen turn.Goes terms els seen
-  unfolding walk knownWith faulty
-  other-turned r = let d = rw r at (role-does t (p + 2)) in record { goes = λ ls. rw d; lasts = tt }
+    defined-once : e ≡ 0 → none ≡ unknownUse here stating → false ≡ second here stating → false ≡ notDifference here stating → none ≡ reasonOf here stating
+    defined-once z = reason-none here stating (rw (eq-eqb e 0 z) at before)
 
--- ---- a difference uses nothing that is unknown
+  module _ (r : roleOf (word t (p + 2)) ≡ role.Term) (u e : ℕ) (eu : u ≡ word t (p + 2 + 1)) (ee : e ≡ word terms u) where
+    pub term-before : not (eqb e 0) ≡ twice here stating
+    unfolding envOf
+    term-before = let d = rw r at (role-does t (p + 2)) in rw (d .1, ← eu) (known-if t terms u e ee)
 
-pair-there : (look : ℕ → Option Term) (x : Option Element) {p : Pair} → pairIn look x ≡ some p → defined x ≡ true
-unfolding pairIn
-pair-there look none h = absurd (never h)
-pair-there look (some e) h = refl
+    pub term-turned : (text terms′ : List ℕ) → e ≡ 0 → none ≡ unknownUse here stating → u < length terms → terms′ ≡ set terms u (p + 2 + 1)
+        → Turned text t p terms els seen turn.Goes terms′ els seen
+    unfolding walk knownWith envOf
+    term-turned text terms′ z w l es =
+        let d = rw r at (role-does t (p + 2)) in
+        let b = defined-once e term-before z w (rw (d .1) refl) (rw (d .1) refl) in
+        record { goes = λ ls. rw (← b, es, terms-entered t (p + 2) terms u l, d .1, eu); lasts = tt }
 
-bound-there : (look : ℕ → Option Term) (x : Option Term) {k : ℤ} → boundOf look x ≡ some k → defined x ≡ true
-unfolding boundOf
-bound-there look none h = absurd (never h)
-bound-there look (some x) h = refl
+  module _ (r : roleOf (word t (p + 2)) ≡ role.Element) (v e : ℕ) (ev : v ≡ word t (p + 2 + 1)) (ee : e ≡ word els v) where
+    pub element-before : not (eqb e 0) ≡ twice here stating
+    unfolding envOf
+    element-before = let d = rw r at (role-does t (p + 2)) in rw (d .1, ← ev) (collected-if t els v e ee)
 
-all-known : (look : ℕ → Option Term) (els : ℕ → Option Element) (p : ℕ) (vs : List ℕ) (g : Guard) (d : Diff)
-    → differenceOf look els p vs g ≡ some d → defined (look p) && (allDefined els vs && guardUses look g) ≡ true
-unfolding differenceOf allDefined
-all-known look els p [] g d h = absurd (never h)
-all-known look els p (v ∷ w ∷ vs) g d h = absurd (never h)
-all-known look els p (v ∷ []) unguarded d h = absurd (never h)
-all-known look els p (v ∷ []) (guard g u) d h =
-    let a = picked (isString diffWord (look p)) _ d h in
-    let b = picked (isString atMost (look g)) (joined (pairIn look (els v)) (boundOf look (look u))) d (a .1) in
-    let j = joined-is (pairIn look (els v)) (boundOf look (look u)) d (b .1) in
-    rw (string-is diffWord (look p) (a .0), pair-there look (els v) (j .0), string-is atMost (look g) (b .0), bound-there look (look u) (j .1))
+    pub element-turned : (text els′ : List ℕ) → e ≡ 0 → none ≡ unknownUse here stating → v < length els → els′ ≡ set els v (p + 2 + 1)
+        → Turned text t p terms els seen turn.Goes terms els′ seen
+    unfolding walk knownWith envOf
+    element-turned text els′ z w l es =
+        let d = rw r at (role-does t (p + 2)) in
+        let b = defined-once e element-before z w (rw (d .1) refl) (rw (d .1) refl) in
+        record { goes = λ ls. rw (← b, es, elements-entered t (p + 2) els v l, d .1, ev); lasts = tt }
+
+  pub other-turned : (text : List ℕ) → roleOf (word t (p + 2)) ≡ role.Other → Turned text t p terms els seen turn.Goes terms els seen
+  unfolding walk knownWith reasonOf
+  other-turned text r = let d = rw r at (role-does t (p + 2)) in record { goes = λ ls. rw d; lasts = tt }
 
 -- ---- a line that states a difference has its words
 
@@ -135,33 +139,48 @@ lasting t terms els p f l e = omega (arith, size-is l, long (lookIn t terms) (el
 -- ---- a theory atom's turn
 
 module _ (t terms els seen : List ℕ) (p : ℕ) (r : roleOf (word t (p + 2)) ≡ role.Atom) where
-  pub atom-second : (a : ℕ) → a ≡ word t (p + 2 + 1) → true ≡ takenIn seen a → true ≡ fault t terms els seen p
-  unfolding faulty envOf
-  atom-second a ea ee = let d = rw r at (role-does t (p + 2)) in rw (d .1, ← ea, ← ee) (simp or-true)
+  -- it defines no number
+  atom-once : false ≡ twice (here t terms els seen p) (stating t terms els seen p)
+  atom-once = let d = rw r at (role-does t (p + 2)) in rw (d .1)
 
-  pub atom-none : none ≡ statedOn t terms els (p + 2) → true ≡ fault t terms els seen p
-  unfolding faulty envOf statedOn
-  atom-none z = let d = rw r at (role-does t (p + 2)) in rw (d .1, ← (rw (d .1) at z)) (simp or-true)
+  pub atom-unknown : (x : Option ℕ) (f : ℕ) → x ≡ some f → x ≡ unknownUse (here t terms els seen p) (stating t terms els seen p)
+      → reason 62 f ≡ reasonOf (here t terms els seen p) (stating t terms els seen p)
+  atom-unknown = reason-unknown (here t terms els seen p) (stating t terms els seen p) atom-once
 
-  pub atom-turned : (x : Turn) (a : ℕ) (f : Diff) (seen′ : List ℕ) → LineOn t p
-      → a ≡ word t (p + 2 + 1) → false ≡ takenIn seen a → some f ≡ statedOn t terms els (p + 2) → a < length seen → seen′ ≡ set seen a 1
-      → asTurn x ≡ got (some (record { atom = a; says = f }))
-      → Turned t p terms els seen x terms els seen′
-  unfolding faulty walk knownWith envOf statedOn
-  atom-turned x a f seen′ on ea ee fd l es ex =
-      let d = rw r at (role-does t (p + 2)) in
-      let g = rw (d .1) at fd in
-      let w : takenIn seen (word t (p + 2 + 1)) ≡ false = rw (← ea) (sym ee) in
-      let kn = all-known (lookIn t terms) (elementsIn t els) _ _ (d .0) f (sym g) in
-      record {
-        goes = λ ls. rw (ex, es, seen-entered seen a l, d .1, kn, w, ← g, ea);
-        lasts = stated x (lasting t terms els p f on fd) ex;
-      }
-    where
-      stated : (x : Turn) {b : ℕ} → p + differenceWords ≤ after t p → asTurn x ≡ got (some (record { atom = b; says = f })) → Lasting x t p
-      stated turn.Goes h e = tt
-      stated (turn.States a x y k) h e = h
-      stated (turn.Refused q) h e = tt
+  module _ (u : none ≡ unknownUse (here t terms els seen p) (stating t terms els seen p)) (a : ℕ) (ea : a ≡ word t (p + 2 + 1)) where
+    stated-before : (b : Bool) → b ≡ entered seen a → b ≡ second (here t terms els seen p) (stating t terms els seen p)
+    unfolding envOf
+    stated-before b e = let d = rw r at (role-does t (p + 2)) in rw (d .1, ← ea) e
+
+    pub atom-second : true ≡ entered seen a → reason 63 0 ≡ reasonOf (here t terms els seen p) (stating t terms els seen p)
+    atom-second e = reason-second (here t terms els seen p) (stating t terms els seen p) atom-once u (stated-before true e)
+
+    module _ (first : false ≡ entered seen a) where
+      said-by : (x : Option Diff) → x ≡ statedOn t terms els (p + 2) → not (defined x) ≡ notDifference (here t terms els seen p) (stating t terms els seen p)
+      unfolding envOf statedOn
+      said-by x e = let d = rw r at (role-does t (p + 2)) in rw (d .1, rw (d .1) at e)
+
+      pub atom-no-difference : none ≡ statedOn t terms els (p + 2) → reason 64 0 ≡ reasonOf (here t terms els seen p) (stating t terms els seen p)
+      atom-no-difference e = reason-no-difference (here t terms els seen p) (stating t terms els seen p) atom-once u (stated-before false first) (said-by none e)
+
+      pub atom-turned : (text : List ℕ) (x : Turn) (f : Diff) (seen′ : List ℕ) → LineOn t p
+          → some f ≡ statedOn t terms els (p + 2) → a < length seen → seen′ ≡ set seen a 1
+          → asTurn x ≡ got (some (record { atom = a; says = f }))
+          → Turned text t p terms els seen x terms els seen′
+      unfolding walk knownWith envOf statedOn
+      atom-turned text x f seen′ on fd l es ex =
+          let d = rw r at (role-does t (p + 2)) in
+          let b = reason-none (here t terms els seen p) (stating t terms els seen p) atom-once u (stated-before false first) (said-by (some f) fd) in
+          let g = rw (d .1) at fd in
+          record {
+            goes = λ ls. rw (ex, ← b, es, seen-entered seen a l, d .1, ← g, ea);
+            lasts = stated x (lasting t terms els p f on fd) ex;
+          }
+        where
+          stated : (x : Turn) {b : ℕ} → p + differenceWords ≤ after t p → asTurn x ≡ got (some (record { atom = b; says = f })) → Lasting x t p
+          stated turn.Goes h e = tt
+          stated (turn.States a x y k) h e = h
+          stated (turn.Refused q) h e = tt
 
 -- ---- the differences stored
 
@@ -209,8 +228,8 @@ module _ (atoms xs ys : List ℕ) (ks : List ℤ) (n a x y : ℕ) (k : ℤ)
   stored-one s e = stored-more s n (heldAt atoms xs ys ks) _ _ e (λ i h. others i (λ z. omega arith)) this
 
 -- there is room for one more
-pub room-left : {t terms els seen terms′ els′ seen′ atoms xs ys : List ℕ} {ks : List ℤ} {p : ℕ} (s : Turn) (n : ℕ)
-    → Turned t p terms els seen s terms′ els′ seen′ → differenceWords * n ≤ p → after t p ≤ length t → Roomy (length t) atoms xs ys ks → RoomFor s n atoms xs ys ks
+pub room-left : {text t terms els seen terms′ els′ seen′ atoms xs ys : List ℕ} {ks : List ℤ} {p : ℕ} (s : Turn) (n : ℕ)
+    → Turned text t p terms els seen s terms′ els′ seen′ → differenceWords * n ≤ p → after t p ≤ length t → Roomy (length t) atoms xs ys ks → RoomFor s n atoms xs ys ks
 room-left turn.Goes n h e l r = tt
 room-left (turn.States a x y k) n h e l r =
     record {

@@ -15,7 +15,7 @@ use Rattle.faults.specs.declared.Refusal.{Refusal}
 use Rattle.aspif.specs.inner.Words.{word, after, linesFrom, linesOf}
 use Rattle.aspif.specs.inner.Kept.{Ahead}
 use Rattle.aspif.proofs.Walking.{ahead-starts, ahead-next, lines-next}
-use Rattle.terms.specs.Terms.{differences}
+use Rattle.terms.specs.Reasons.{differences}
 use Rattle.terms.specs.inner.Tables.{AllZero, envOf, walk, heldAt, tabulated, gather}
 use Rattle.terms.specs.inner.Values.{differenceWords, asDifferences, Roomy, Within, asTurn, oneMore, Tables, Turned, Stored}
 use Rattle.terms.specs.declared.lines.Turn.{Turn}
@@ -40,8 +40,8 @@ kept-room k r =
 
 -- ---- what holds before each turn
 
-pub record Underway (t : List ℕ) (n p left m : ℕ) (ts es ss as′ xs ys : List ℕ) (ks : List ℤ) : Type 0 where
-  pub answer : gather m (heldAt as′ xs ys ks) (walk (envOf t ts es ss) (linesFrom t p left)) ≡ differences (linesOf t n)
+pub record Underway (text t : List ℕ) (n p left m : ℕ) (ts es ss as′ xs ys : List ℕ) (ks : List ℤ) : Type 0 where
+  pub answer : gather m (heldAt as′ xs ys ks) (walk text (envOf t ts es ss) (linesFrom t p left)) ≡ differences text (linesOf t n)
   pub ahead : Ahead t p left
   pub tables : Tables ts es ss
   pub counted : differenceWords * m ≤ p
@@ -50,35 +50,35 @@ zero-table : (n : ℕ) → AllZero (replicate {A = ℕ} n 0)
 unfolding word
 zero-table n = record { zero-at = λ i. zeros n i }
 
-pub at-first : (t : List ℕ) (n : ℕ) (as′ xs ys : List ℕ) (ks : List ℤ) → Ahead t 0 n
-    → Underway t n 0 n 0 (replicate {A = ℕ} termPlaces 0) (replicate {A = ℕ} elementPlaces 0) (replicate {A = ℕ} atomPlaces 0) as′ xs ys ks
-at-first t n as′ xs ys ks q =
+pub at-first : (text t : List ℕ) (n : ℕ) (as′ xs ys : List ℕ) (ks : List ℤ) → Ahead t 0 n
+    → Underway text t n 0 n 0 (replicate {A = ℕ} termPlaces 0) (replicate {A = ℕ} elementPlaces 0) (replicate {A = ℕ} atomPlaces 0) as′ xs ys ks
+at-first text t n as′ xs ys ks q =
     record {
-      answer = gather-none (heldAt as′ xs ys ks) _ ∙ start-is t _ _ _ (linesOf t n) (zero-table termPlaces) (zero-table elementPlaces) (zero-table atomPlaces);
+      answer = gather-none (heldAt as′ xs ys ks) _ ∙ start-is text t _ _ _ (linesOf t n) (zero-table termPlaces) (zero-table elementPlaces) (zero-table atomPlaces);
       ahead = q;
       tables = record { for-terms = length-replicate {A = ℕ} termPlaces 0; for-elements = length-replicate {A = ℕ} elementPlaces 0; for-seen = length-replicate {A = ℕ} atomPlaces 0 };
       counted = omega arith;
     }
 
 -- a turn takes as many words as it adds differences for
-counts : {t terms els seen terms′ els′ seen′ : List ℕ} {p : ℕ} (s : Turn) (m m′ : ℕ) → Turned t p terms els seen s terms′ els′ seen′ → got m′ ≡ bind (asTurn s) (λ d. got (oneMore m d))
+counts : {text t terms els seen terms′ els′ seen′ : List ℕ} {p : ℕ} (s : Turn) (m m′ : ℕ) → Turned text t p terms els seen s terms′ els′ seen′ → got m′ ≡ bind (asTurn s) (λ d. got (oneMore m d))
     → differenceWords * m ≤ p → differenceWords * m′ ≤ after t p
 counts turn.Goes m m′ h e l = let z : m′ ≡ m = cc in omega arith
 counts (turn.States a x y k) m m′ h e l = let z : m′ ≡ m + 1 = cc in omega (arith, h .lasts)
 counts (turn.Refused r) m m′ h e l = let z : _≡_ {A = ℕ} 0 1 = (cc) in absurd (omega arith)
 
-module _ {t : List ℕ} {n p left m : ℕ} {ts es ss as′ xs ys : List ℕ} {ks : List ℤ} (h : 0 < left) (u : Underway t n p left m ts es ss as′ xs ys ks)
-    {s : Turn} {ts′ es′ ss′ : List ℕ} (took : Turned t p ts es ss s ts′ es′ ss′)
+module _ {text t : List ℕ} {n p left m : ℕ} {ts es ss as′ xs ys : List ℕ} {ks : List ℤ} (h : 0 < left) (u : Underway text t n p left m ts es ss as′ xs ys ks)
+    {s : Turn} {ts′ es′ ss′ : List ℕ} (took : Turned text t p ts es ss s ts′ es′ ss′)
     (as″ xs′ ys′ : List ℕ) (ks′ : List ℤ) (r : Step) (put : Stored s m (heldAt as′ xs ys ks) r (heldAt as″ xs′ ys′ ks′)) where
-  turned : bind (asStep r) (λ (m : ℕ). gather m (heldAt as″ xs′ ys′ ks′) (walk (envOf t ts′ es′ ss′) (linesFrom t (after t p) (left - 1)))) ≡ differences (linesOf t n)
+  turned : bind (asStep r) (λ (m : ℕ). gather m (heldAt as″ xs′ ys′ ks′) (walk text (envOf t ts′ es′ ss′) (linesFrom t (after t p) (left - 1)))) ≡ differences text (linesOf t n)
   turned = put .goes _ ∙ ap (gather m (heldAt as′ xs ys ks)) (took .goes (linesFrom t (after t p) (left - 1))) ∙ (rw (lines-next t p left h) at (u .answer))
 
   -- a refusal is the answer
-  pub at-refusal : (x : Refusal) → r ≡ Refused x → asDifferences r as″ xs′ ys′ ks′ ≡ differences (linesOf t n)
+  pub at-refusal : (x : Refusal) → r ≡ Refused x → asDifferences r as″ xs′ ys′ ks′ ≡ differences text (linesOf t n)
   at-refusal x e = rw e (rw e at turned)
 
   -- a line taken
-  pub at-next : (m′ next : ℕ) → r ≡ Good m′ → next ≡ after t p → length ts′ ≡ length ts → length es′ ≡ length es → length ss′ ≡ length ss → Underway t n next (left - 1) m′ ts′ es′ ss′ as″ xs′ ys′ ks′
+  pub at-next : (m′ next : ℕ) → r ≡ Good m′ → next ≡ after t p → length ts′ ≡ length ts → length es′ ≡ length es → length ss′ ≡ length ss → Underway text t n next (left - 1) m′ ts′ es′ ss′ as″ xs′ ys′ ks′
   at-next m′ next e q lt le ls =
       record {
         answer = rw q (rw e at turned);
@@ -87,15 +87,15 @@ module _ {t : List ℕ} {n p left m : ℕ} {ts es ss as′ xs ys : List ℕ} {ks
         counted = rw q (counts s m m′ took (rw e at (put .counts)) (u .counted));
       }
 
-pub at-last : (t : List ℕ) (n p left m : ℕ) (ts es ss as′ xs ys : List ℕ) (ks : List ℤ) → left ≤ 0 → Underway t n p left m ts es ss as′ xs ys ks
-    → got (tabulated m (heldAt as′ xs ys ks)) ≡ differences (linesOf t n)
+pub at-last : (text t : List ℕ) (n p left m : ℕ) (ts es ss as′ xs ys : List ℕ) (ks : List ℤ) → left ≤ 0 → Underway text t n p left m ts es ss as′ xs ys ks
+    → got (tabulated m (heldAt as′ xs ys ks)) ≡ differences text (linesOf t n)
 unfolding gather walk linesFrom
-at-last t n p left m ts es ss as′ xs ys ks h u = let e : left ≡ 0 = omega arith in sym (ap got (append-nil _)) ∙ (rw e at (u .answer))
+at-last text t n p left m ts es ss as′ xs ys ks h u = let e : left ≡ 0 = omega arith in sym (ap got (append-nil _)) ∙ (rw e at (u .answer))
 
 -- what was found stands within the slices
-pub at-end : {t : List ℕ} {n p left m : ℕ} {ts es ss as′ xs ys as″ xs′ ys′ : List ℕ} {ks ks′ : List ℤ} → Underway t n p left m ts es ss as″ xs′ ys′ ks′
+pub at-end : {text t : List ℕ} {n p left m : ℕ} {ts es ss as′ xs ys as″ xs′ ys′ : List ℕ} {ks ks′ : List ℤ} → Underway text t n p left m ts es ss as″ xs′ ys′ ks′
     → Kept as′ xs ys ks as″ xs′ ys′ ks′ → Roomy (length t) as′ xs ys ks → Within m as″ xs′ ys′ ks′
-at-end {t} {p = p} {left} u k r =
+at-end {t = t} {p = p} {left} u k r =
     let l = ahead-starts t p left (u .ahead) in
     record {
       in-atoms = omega (arith, l, u .counted, k .of-atoms, r .for-atoms);

@@ -83,7 +83,7 @@ SaysIn ls a d (some (states b p vs unguarded)) = ⊥
 SaysIn ls a d (some (states b p vs (guard g u))) = (b ≡ a) × Difference ls p vs g u d
 SaysIn ls a d none = ⊥
 
--- the theory atom a says d. Numbers are looked up in the whole text: in one that 6 does not refuse, each is defined once and before its use
+-- the theory atom a says d. Numbers are looked up in the whole text: in one that 61 to 64 do not refuse, each is defined once and before its use
 abbrev pub Says : List Line → ℕ → Diff → Type 0
 Says ls a d = Some (λ (l : Line). SaysIn ls a d (theoryIn (l .says))) ls
 

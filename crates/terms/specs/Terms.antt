@@ -1,4 +1,5 @@
--- Believed: refusal 6: docs/RULES.md, 'Difference atoms'. Lines are taken in order, each with what the lines before it define. It can be run. Assumes nothing.
+-- Believed: what is wrong with a line's terms, and the difference that it states: docs/RULES.md, 'Difference atoms'. Lines are taken in order, each with
+-- what the lines before it define. It can be run. Assumes nothing.
 use Prim.Native.Nat.{ℕ}
 use mathlib.Core.Path.{_≡_}
 use mathlib.Core.List.{List, [], _∷_, _++_}
@@ -8,7 +9,7 @@ use lib.Dec.{eqb}
 use lib.IntN.{ℤ, pos, negsuc, negℤ}
 use Rattle.basics.specs.Bools.{pick}
 use Rattle.basics.specs.Lists.{Some}
-use Rattle.faults.specs.Answer.{Answer, got, refused, mapped}
+use Rattle.faults.specs.Answer.{Answer, mapped}
 use Rattle.aspif.specs.Statements.{Term, num, str, comp, Element, elem, Guard, unguarded, guard, Theory, defines, collects, states, Line, theoryIn}
 use Rattle.diffs.specs.Diff.{Diff}
 use Rattle.terms.specs.Says.{term, elementAt, diffWord, minus, atMost, headed}
@@ -174,11 +175,21 @@ notDifference env (some (collects v e)) = false
 notDifference env (some (states a p vs g)) = not (defined (differenceOf (env .terms) (env .elements) p vs g))
 notDifference env none = false
 
--- one of the four
-unfoldable pub faulty : Env → Option Theory → Bool
-faulty env s = twice env s || (undefinedUse env s || (second env s || notDifference env s))
+-- one of the four: document 01's test for 6
+unfoldable pub unsound : Env → Option Theory → Bool
+unsound env s = twice env s || (undefinedUse env s || (second env s || notDifference env s))
 
--- ---- the differences of a text
+-- the place of the first unsound line of ls, behind the lines before
+unfoldable pub unsoundFrom : (before ls : List Line) → Option ℕ
+unsoundFrom before [] = none
+unsoundFrom before (l ∷ ls) =
+    pick (unsound (known before) (theoryIn (l .says))) (some (l .place)) (unsoundFrom (before ++ (l ∷ [])) ls)
+
+-- the place at which document 01 gives 6
+abbrev pub firstUnsound : List Line → Option ℕ
+firstUnsound ls = unsoundFrom [] ls
+
+-- ---- the difference that a line states
 
 -- an atom, and the difference that it says
 pub record Stated : Type 0 where
@@ -201,18 +212,6 @@ statedBy env none = none
 abbrev pub more : Option Stated → Answer (List Stated) → Answer (List Stated)
 more (some d) r = mapped (λ (ds : List Stated). d ∷ ds) r
 more none r = r
-
--- of the lines ls, behind the lines before
-unfoldable pub differencesFrom : (before ls : List Line) → Answer (List Stated)
-differencesFrom before [] = got []
-differencesFrom before (l ∷ ls) =
-    pick (faulty (known before) (theoryIn (l .says)))
-    (refused 6 (l .place))
-    (more (statedBy (known before) (theoryIn (l .says))) (differencesFrom (before ++ (l ∷ [])) ls))
-
--- the differences that the lines state, in order; or 6 at the first line that is faulty
-unfoldable pub differences : List Line → Answer (List Stated)
-differences ls = differencesFrom [] ls
 
 -- among these, a says d
 abbrev pub Lists : List Stated → ℕ → Diff → Type 0

@@ -1,11 +1,11 @@
-// Terms and theory atoms: refusal 6, or what the difference atoms say.
+// Terms and theory atoms: refusals 61 to 64, or what the difference atoms say.
 ghost use mathlib.Core.Path.{_≡_};
 ghost use Prim.Native.Nat.{_≤_};
 ghost use lib.ListN.{length};
 ghost use Rattle.faults.specs.Limits.{longestText};
 ghost use Rattle.aspif.specs.inner.Words.{linesOf};
 ghost use Rattle.aspif.specs.inner.Kept.{Ahead};
-ghost use Rattle.terms.specs.Terms.{differences};
+ghost use Rattle.terms.specs.Reasons.{differences};
 ghost use Rattle.terms.specs.inner.Tables.{heldAt};
 ghost use Rattle.terms.specs.inner.Values.{asDifferences, Roomy, RoomFor, Stored, StatedWithin};
 use crate::lines::Turn;
@@ -20,6 +20,7 @@ mod difference;
 mod lines;
 pub mod marks;
 mod tables;
+mod uses;
 
 // Stores the difference that a turn states behind n others.
 fn store(
@@ -46,8 +47,9 @@ fn store(
     }
 }
 
-// The differences that the n lines of the tape state, in order, in the first places of four slices; or 6.
+// The differences that the n lines of the text, which stand on the tape, state, in order, in the first places of four slices; or 61 to 64.
 pub fn collect(
+    text: &[u8],
     tape: &[u32],
     n: usize,
     atoms: &mut [u32],
@@ -57,7 +59,7 @@ pub fn collect(
 ) -> Step
     requires { ⌜ Ahead (now tape) 0 n × (length (now tape) ≤ longestText) ⌝ }
     requires { ⌜ Roomy (length (now tape)) (now atoms) (now xs) (now ys) (now ks) ⌝ }
-    ensures { λ r. ⌜ asDifferences r (now (atoms .exit)) (now (xs .exit)) (now (ys .exit)) (now (ks .exit)) ≡ differences (linesOf (now (tape .entry)) n) ⌝ }
+    ensures { λ r. ⌜ asDifferences r (now (atoms .exit)) (now (xs .exit)) (now (ys .exit)) (now (ks .exit)) ≡ differences (now (text .entry)) (linesOf (now (tape .entry)) n) ⌝ }
     ensures { λ r. ⌜ StatedWithin r (now (atoms .exit)) (now (xs .exit)) (now (ys .exit)) (now (ks .exit)) ⌝ }
 {
     let mut terms = [0u32; TERM_PLACES];
@@ -67,7 +69,7 @@ pub fn collect(
     let mut left = n;
     let mut m = 0;
     while 0 < left {
-        let s = take_line(tape, p, &mut terms, &mut elements, &mut seen);
+        let s = take_line(text, tape, p, &mut terms, &mut elements, &mut seen);
         let r = store(s, atoms, xs, ys, ks, m);
         let Step::Good(more) = r else {
             return r;

@@ -1,28 +1,30 @@
-// One line in its turn: refused where it is faulty, else entered.
+// One line in its turn: refused where something is wrong with it, else entered.
 ghost use mathlib.Core.Path.{_≡_};
 ghost use mathlib.Core.List.{List};
 ghost use Prim.Native.Nat.{ℕ, _+_, _≤_};
 ghost use lib.ListN.{length};
 ghost use Rattle.faults.specs.Answer.{refused};
+ghost use Rattle.faults.specs.Values.{number};
 ghost use Rattle.faults.specs.Limits.{longestText};
-ghost use Rattle.faults.specs.inner.Places.{termPlaces, elementPlaces, atomPlaces, farPlace};
-ghost use Rattle.aspif.specs.Statements.{theoryIn};
-ghost use Rattle.aspif.specs.Grammar.{integerOf};
-ghost use Rattle.aspif.specs.inner.Words.{word, wordsFrom, saysAt};
+ghost use Rattle.faults.specs.inner.Places.{termPlaces, elementPlaces, atomPlaces};
+ghost use Rattle.fields.specs.Fields.{fieldPlace};
+ghost use Rattle.aspif.specs.inner.Words.{word};
 ghost use Rattle.aspif.specs.inner.Kept.{LineOn};
-ghost use Rattle.terms.specs.Terms.{allDefined, functorKnown, faulty};
-ghost use Rattle.terms.specs.inner.Tables.{roleOf, lookIn, envOf};
+ghost use Rattle.terms.specs.inner.Tables.{roleOf};
 ghost use Rattle.terms.specs.inner.Values.{asTurn, Tables, Turned};
 ghost use Rattle.terms.specs.declared.lines.Role.the-variants as role;
 use crate::difference::Said;
 use crate::difference::difference;
-use crate::difference::is_term;
 use crate::tables::element_entry;
 use crate::tables::enter_atom;
 use crate::tables::is_entered;
 use crate::tables::put_element;
 use crate::tables::put_term;
 use crate::tables::term_entry;
+use crate::uses::Use;
+use crate::uses::atom_use;
+use crate::uses::element_use;
+use crate::uses::term_use;
 use aspif::kinds::ATOM;
 use aspif::kinds::COMPOUND;
 use aspif::kinds::ELEMENT;
@@ -33,19 +35,17 @@ use aspif::walk::atom_at;
 use aspif::walk::element_at;
 use aspif::walk::term_at;
 use aspif::walk::word_at;
-use aspif::words::ARGUMENTS;
-use aspif::words::FIRST_ARGUMENT;
-use aspif::words::FIRST_TERM;
-use aspif::words::FUNCTOR;
-use aspif::words::KIND;
 use aspif::words::OF;
 use aspif::words::PLACE;
 use aspif::words::SAYS;
-use aspif::words::TERMS;
 use faults::AtomNo;
 use faults::Kind;
 use faults::Refusal;
 use faults::TermNo;
+use fields::field_place;
+
+// The field whose place is that of the line.
+const FIRST_FIELD: usize = 0;
 
 // What a line is for.
 pub enum Role {
@@ -87,128 +87,79 @@ fn role_of(kind: u32) -> Role
     Role::Other
 }
 
-// Whether the n terms from `from` on are all defined.
-fn all_known(tape: &[u32], from: usize, n: u32, terms: &[u32]) -> bool
-    requires { ⌜ from ≤ farPlace ⌝ }
-    ensures { λ r. ⌜ r ≡ allDefined (lookIn (now (tape .entry)) (now (terms .entry))) (wordsFrom (now (tape .entry)) from n) ⌝ }
+// The refusal of the line at p, placed at one of its fields.
+fn refuse(text: &[u8], tape: &[u32], p: usize, kind: Kind, field: usize) -> Turn
+    ensures { λ r. ⌜ asTurn r ≡ refused (number kind) (fieldPlace (now (text .entry)) field (word (now (tape .entry)) p)) ⌝ }
 {
-    let mut left = n;
-    let mut q = from;
-    while 0 < left {
-        let u = term_at(tape, q, 0);
-        let e = term_entry(terms, u);
-        if e == 0 {
-            return false;
-        }
-        q += 1;
-        left -= 1;
-    }
-    true
-}
-
-// Whether a compound's t is defined, where it is a term number.
-fn functor_known(tape: &[u32], terms: &[u32], t: u32) -> bool
-    ensures { λ r. ⌜ r ≡ functorKnown (lookIn (now (tape .entry)) (now (terms .entry))) (integerOf t) ⌝ }
-{
-    if is_term(t) {
-        let e = term_entry(terms, TermNo(t / 2));
-        return e != 0;
-    }
-    true
-}
-
-// Whether the statement at q, which defines a term, is faulty.
-fn bad_term(tape: &[u32], q: usize, terms: &[u32]) -> bool
-    requires { ⌜ (q ≤ length (now tape)) × (roleOf (word (now tape) q) ≡ role.Term) ⌝ }
-    ensures { λ r. ⌜ ((els seen : List ℕ) → r ≡ faulty (envOf (now (tape .entry)) (now (terms .entry)) els seen) (theoryIn (saysAt (now (tape .entry)) q))) ⌝ }
-{
-    let u = term_at(tape, q, OF);
-    let before = term_entry(terms, u);
-    if before != 0 {
-        return true;
-    }
-    let kind = word_at(tape, q, KIND);
-    if kind != COMPOUND {
-        return false;
-    }
-    let t = word_at(tape, q, FUNCTOR);
-    if !functor_known(tape, terms, t) {
-        return true;
-    }
-    let n = word_at(tape, q, ARGUMENTS);
-    let from = q + FIRST_ARGUMENT;
-    !all_known(tape, from, n, terms)
-}
-
-// Whether the statement at q, which collects an element, is faulty.
-fn bad_element(tape: &[u32], q: usize, terms: &[u32], elements: &[u32]) -> bool
-    requires { ⌜ (q ≤ length (now tape)) × (roleOf (word (now tape) q) ≡ role.Element) ⌝ }
-    ensures { λ r. ⌜ ((seen : List ℕ) → r ≡ faulty (envOf (now (tape .entry)) (now (terms .entry)) (now (elements .entry)) seen) (theoryIn (saysAt (now (tape .entry)) q))) ⌝ }
-{
-    let v = element_at(tape, q, OF);
-    let e = element_entry(elements, v);
-    if e != 0 {
-        return true;
-    }
-    let n = word_at(tape, q, TERMS);
-    let from = q + FIRST_TERM;
-    !all_known(tape, from, n, terms)
-}
-
-// The refusal of the line at p.
-fn refuse(tape: &[u32], p: usize) -> Turn
-    ensures { λ r. ⌜ asTurn r ≡ refused 6 (word (now (tape .entry)) p) ⌝ }
-{
-    let place = word_at(tape, p, PLACE);
-    Turn::Refused(Refusal {
-        kind: Kind::Terms,
-        place: place as usize,
-    })
+    let line = word_at(tape, p, PLACE);
+    let place = field_place(text, field, line as usize);
+    Turn::Refused(Refusal { kind, place })
 }
 
 // Takes the line at p, which defines a term.
-fn take_term(tape: &[u32], p: usize, terms: &mut [u32]) -> Turn
+fn take_term(text: &[u8], tape: &[u32], p: usize, terms: &mut [u32]) -> Turn
     requires { ⌜ LineOn (now tape) p × (roleOf (word (now tape) (p + 2)) ≡ role.Term) × (length (now terms) ≡ termPlaces) × (length (now tape) ≤ longestText) ⌝ }
-    ensures { λ r. ⌜ ((els seen : List ℕ) → Turned (now (tape .entry)) p (now (terms .entry)) els seen r (now (terms .exit)) els seen) ⌝ }
+    ensures { λ r. ⌜ ((els seen : List ℕ) → Turned (now (text .entry)) (now (tape .entry)) p (now (terms .entry)) els seen r (now (terms .exit)) els seen) ⌝ }
 {
     let q = p + SAYS;
-    if bad_term(tape, q, terms) {
-        return refuse(tape, p);
-    }
     let u = term_at(tape, q, OF);
+    let before = term_entry(terms, u);
+    if before != 0 {
+        return refuse(text, tape, p, Kind::Twice, FIRST_FIELD);
+    }
+    let unknown = term_use(tape, q, terms);
+    if let Use::At(field) = unknown {
+        return refuse(text, tape, p, Kind::Unknown, field);
+    }
     let mark = (q + 1) as u32;
     put_term(terms, u, mark);
     Turn::Goes
 }
 
 // Takes the line at p, which collects an element.
-fn take_element(tape: &[u32], p: usize, terms: &[u32], elements: &mut [u32]) -> Turn
+fn take_element(text: &[u8], tape: &[u32], p: usize, terms: &[u32], elements: &mut [u32]) -> Turn
     requires { ⌜ LineOn (now tape) p × (roleOf (word (now tape) (p + 2)) ≡ role.Element) × (length (now elements) ≡ elementPlaces) × (length (now tape) ≤ longestText) ⌝ }
-    ensures { λ r. ⌜ ((seen : List ℕ) → Turned (now (tape .entry)) p (now (terms .entry)) (now (elements .entry)) seen r (now (terms .entry)) (now (elements .exit)) seen) ⌝ }
+    ensures { λ r. ⌜ ((seen : List ℕ) → Turned (now (text .entry)) (now (tape .entry)) p (now (terms .entry)) (now (elements .entry)) seen r (now (terms .entry)) (now (elements .exit)) seen) ⌝ }
 {
     let q = p + SAYS;
-    if bad_element(tape, q, terms, elements) {
-        return refuse(tape, p);
-    }
     let v = element_at(tape, q, OF);
+    let collected = element_entry(elements, v);
+    if collected != 0 {
+        return refuse(text, tape, p, Kind::Twice, FIRST_FIELD);
+    }
+    let unknown = element_use(tape, q, terms);
+    if let Use::At(field) = unknown {
+        return refuse(text, tape, p, Kind::Unknown, field);
+    }
     let mark = (q + 1) as u32;
     put_element(elements, v, mark);
     Turn::Goes
 }
 
-// Takes the line at p, which states a theory atom; one that uses what is not defined is no difference.
-fn take_atom(tape: &[u32], p: usize, terms: &[u32], elements: &[u32], seen: &mut [u8]) -> Turn
+// Takes the line at p, which states a theory atom.
+fn take_atom(
+    text: &[u8],
+    tape: &[u32],
+    p: usize,
+    terms: &[u32],
+    elements: &[u32],
+    seen: &mut [u8],
+) -> Turn
     requires { ⌜ LineOn (now tape) p × (roleOf (word (now tape) (p + 2)) ≡ role.Atom) × (length (now seen) ≡ atomPlaces) ⌝ }
-    ensures { λ r. ⌜ Turned (now (tape .entry)) p (now (terms .entry)) (now (elements .entry)) (now (seen .entry)) r (now (terms .entry)) (now (elements .entry)) (now (seen .exit)) ⌝ }
+    ensures { λ r. ⌜ Turned (now (text .entry)) (now (tape .entry)) p (now (terms .entry)) (now (elements .entry)) (now (seen .entry)) r (now (terms .entry)) (now (elements .entry)) (now (seen .exit)) ⌝ }
 {
     let q = p + SAYS;
+    let unknown = atom_use(tape, q, terms, elements);
+    if let Use::At(field) = unknown {
+        return refuse(text, tape, p, Kind::Unknown, field);
+    }
     let a = atom_at(tape, q, OF);
     if is_entered(seen, a) {
-        return refuse(tape, p);
+        return refuse(text, tape, p, Kind::Second, FIRST_FIELD);
     }
     let d = difference(tape, q, terms, elements);
     let Said::Is(x, y, k) = d else {
-        return refuse(tape, p);
+        return refuse(text, tape, p, Kind::NoDifference, FIRST_FIELD);
     };
     enter_atom(seen, a);
     Turn::States(a, x, y, k)
@@ -216,6 +167,7 @@ fn take_atom(tape: &[u32], p: usize, terms: &[u32], elements: &[u32], seen: &mut
 
 // Takes the line at p.
 pub fn take_line(
+    text: &[u8],
     tape: &[u32],
     p: usize,
     terms: &mut [u32],
@@ -223,14 +175,14 @@ pub fn take_line(
     seen: &mut [u8],
 ) -> Turn
     requires { ⌜ LineOn (now tape) p × Tables (now terms) (now elements) (now seen) × (length (now tape) ≤ longestText) ⌝ }
-    ensures { λ r. ⌜ Turned (now (tape .entry)) p (now (terms .entry)) (now (elements .entry)) (now (seen .entry)) r (now (terms .exit)) (now (elements .exit)) (now (seen .exit)) ⌝ }
+    ensures { λ r. ⌜ Turned (now (text .entry)) (now (tape .entry)) p (now (terms .entry)) (now (elements .entry)) (now (seen .entry)) r (now (terms .exit)) (now (elements .exit)) (now (seen .exit)) ⌝ }
 {
     let kind = word_at(tape, p, SAYS);
     let role = role_of(kind);
     match role {
-        Role::Term => take_term(tape, p, terms),
-        Role::Element => take_element(tape, p, terms, elements),
-        Role::Atom => take_atom(tape, p, terms, elements, seen),
+        Role::Term => take_term(text, tape, p, terms),
+        Role::Element => take_element(text, tape, p, terms, elements),
+        Role::Atom => take_atom(text, tape, p, terms, elements, seen),
         Role::Other => Turn::Goes,
     }
 }

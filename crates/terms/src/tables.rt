@@ -3,13 +3,13 @@ ghost use mathlib.Core.Path.{_≡_};
 ghost use Prim.Native.Nat.{_<_};
 ghost use lib.ListN.{length, set};
 ghost use Rattle.aspif.specs.inner.Words.{word};
-ghost use Rattle.terms.specs.inner.Tables.{takenIn};
+ghost use Rattle.terms.specs.inner.Tables.{entered};
 use faults::AtomNo;
 use faults::ElementNo;
 use faults::TermNo;
 
 // The entry of a number, or 0 past the end.
-fn entry(table: &[u32], u: u32) -> usize
+pub fn entry(table: &[u32], u: u32) -> usize
     ensures { λ r. ⌜ r ≡ word (now (table .entry)) u ⌝ }
 {
     let i = u as usize;
@@ -35,7 +35,7 @@ pub fn element_entry(elements: &[u32], v: ElementNo) -> usize
 
 // Whether an atom is entered.
 pub fn is_entered(seen: &[u8], a: AtomNo) -> bool
-    ensures { λ r. ⌜ r ≡ takenIn (now (seen .entry)) (a .0) ⌝ }
+    ensures { λ r. ⌜ r ≡ entered (now (seen .entry)) (a .0) ⌝ }
 {
     let i = a.0 as usize;
     if seen.len() <= i {

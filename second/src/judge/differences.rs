@@ -1,10 +1,13 @@
-//! Terms, elements and difference atoms: refusal 6.
+//! Terms, elements and difference atoms: refusals 61 to 64.
 
-use super::reading::{Base, Line, Statement};
+use super::reading::{Base, Line, Statement, Use, Used};
 use super::refusal::Refusal;
 use std::collections::{BTreeMap, BTreeSet};
 
-pub const UNSOUND: u32 = 6;
+pub const TWICE: u32 = 61;
+pub const UNKNOWN: u32 = 62;
+pub const SECOND: u32 = 63;
+pub const NO_DIFFERENCE: u32 = 64;
 
 /// A difference atom: x - y <= bound, with the place of its line.
 #[derive(Clone, Copy, Debug, PartialEq, Eq)]
@@ -24,43 +27,74 @@ struct Defined<'a> {
     atoms: BTreeSet<u32>,
 }
 
-/// The differences of a read text in its order, or refusal 6 at the first unsound line.
+/// The differences of a read text in its order, or the refusal of the first line that has one of 61 to 64.
 // Takes the lines in order, each against what the earlier ones defined.
 pub fn terms(lines: &[Line]) -> Result<Vec<Difference>, Refusal> {
     let mut defined = Defined::default();
     let mut differences = Vec::new();
     for line in lines {
-        let unsound = Refusal { number: UNSOUND, place: line.place };
-        let found = defined.take(line).ok_or(unsound)?;
-        differences.extend(found);
+        differences.extend(defined.take(line)?);
     }
     Ok(differences)
 }
 
 impl<'a> Defined<'a> {
-    // Takes one line: none if it is unsound, else the difference it may be.
-    fn take(&mut self, line: &'a Line) -> Option<Option<Difference>> {
-        let (terms, elements) = uses(&line.statement);
-        let known =
-            terms.iter().all(|t| self.terms.contains_key(t)) && elements.iter().all(|e| self.elements.contains_key(e));
-        if !known || !self.define(&line.statement) {
-            return None;
+    // Takes one line: the first of 61 to 64 that it has, else the difference it may be.
+    fn take(&mut self, line: &'a Line) -> Result<Option<Difference>, Refusal> {
+        let at_line = |number| Refusal { number, place: line.place };
+        if self.twice(&line.statement) {
+            return Err(at_line(TWICE));
         }
+        if let Some(unknown) = line.uses.iter().find(|u| !self.knows(u)) {
+            return Err(Refusal { number: UNKNOWN, place: unknown.place });
+        }
+        if self.second(&line.statement) {
+            return Err(at_line(SECOND));
+        }
+        self.enter(&line.statement);
         match line.statement {
-            Statement::Theory { .. } => Some(Some(self.difference(line)?)),
-            _ => Some(None),
+            Statement::Theory { .. } => self.difference(line).ok_or(at_line(NO_DIFFERENCE)).map(Some),
+            _ => Ok(None),
         }
     }
 
-    // Enters what a statement defines; false if it was defined before.
-    fn define(&mut self, statement: &'a Statement) -> bool {
+    // Whether a statement defines a term or element that is defined already.
+    fn twice(&self, statement: &Statement) -> bool {
         match statement {
             Statement::Number { term, .. } | Statement::Symbol { term, .. } | Statement::Compound { term, .. } => {
-                self.terms.insert(*term, statement).is_none()
+                self.terms.contains_key(term)
             }
-            Statement::Element { element, .. } => self.elements.insert(*element, statement).is_none(),
-            Statement::Theory { atom, .. } => self.atoms.insert(*atom),
-            _ => true,
+            Statement::Element { element, .. } => self.elements.contains_key(element),
+            _ => false,
+        }
+    }
+
+    // Whether what is used is defined.
+    fn knows(&self, used: &Use) -> bool {
+        match used.of {
+            Used::Term(term) => self.terms.contains_key(&term),
+            Used::Element(element) => self.elements.contains_key(&element),
+        }
+    }
+
+    // Whether a statement is one more for an atom that has one.
+    fn second(&self, statement: &Statement) -> bool {
+        matches!(statement, Statement::Theory { atom, .. } if self.atoms.contains(atom))
+    }
+
+    // Enters what a statement defines.
+    fn enter(&mut self, statement: &'a Statement) {
+        match statement {
+            Statement::Number { term, .. } | Statement::Symbol { term, .. } | Statement::Compound { term, .. } => {
+                self.terms.insert(*term, statement);
+            }
+            Statement::Element { element, .. } => {
+                self.elements.insert(*element, statement);
+            }
+            Statement::Theory { atom, .. } => {
+                self.atoms.insert(*atom);
+            }
+            _ => (),
         }
     }
 
@@ -121,25 +155,5 @@ impl<'a> Defined<'a> {
             Some(Statement::Symbol { string, .. }) => string == bytes,
             _ => false,
         }
-    }
-}
-
-// The terms and the elements a statement uses.
-fn uses(statement: &Statement) -> (Vec<u32>, Vec<u32>) {
-    match statement {
-        Statement::Compound { base, arguments, .. } => {
-            let mut terms = arguments.clone();
-            if let Base::Term(t) = base {
-                terms.push(*t);
-            }
-            (terms, vec![])
-        }
-        Statement::Element { terms, .. } => (terms.clone(), vec![]),
-        Statement::Theory { name, elements, guard, .. } => {
-            let mut terms = vec![*name];
-            terms.extend(guard.iter().flat_map(|(g, u)| [*g, *u]));
-            (terms, elements.clone())
-        }
-        _ => (vec![], vec![]),
     }
 }

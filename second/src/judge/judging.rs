@@ -1,7 +1,7 @@
 //! The verdict, the showing of a fault, and the judging of a cycle list.
 
 use super::candidate::read_candidate;
-use super::differences::{terms, Difference};
+use super::differences::{terms, Difference, NO_DIFFERENCE, SECOND, TWICE, UNKNOWN};
 use super::fields::LINE_END;
 use super::meaning::{first_broken, smallest_unfounded, Atoms};
 use super::reading::{read_text, Line, TEXT_BYTES};
@@ -13,7 +13,7 @@ use std::collections::BTreeMap;
 pub const ROOM_BYTES: usize = 24_592;
 pub const CYCLE_PLACES: usize = 1_024;
 
-/// A plan text that none of 2 to 6 refuses.
+/// A plan text that none of 2 to 5 and 61 to 64 refuses.
 #[derive(Clone, Debug)]
 pub struct Plan {
     pub lines: Vec<Line>,
@@ -46,7 +46,7 @@ pub fn check_length(text: &[u8]) -> Result<(), Refusal> {
     Ok(())
 }
 
-// Refusals 2 to 6.
+// Refusals 2 to 5 and 61 to 64.
 pub fn read_plan(text: &[u8]) -> Result<Plan, Refusal> {
     check_length(text)?;
     let lines = read_text(text)?;
@@ -103,7 +103,7 @@ pub fn judge(text: &[u8], cand: &[u8], room: &mut [u8], cycle: &mut [u32]) -> Ve
 // Chooses text or candidate by the number.
 pub fn show<'a>(text: &'a [u8], cand: &'a [u8], number: u32, place: u32) -> &'a [u8] {
     match number {
-        3 | 4 | 5 | 6 | 8 => line_from(text, place as usize),
+        3 | 4 | 5 | 8 | TWICE | UNKNOWN | SECOND | NO_DIFFERENCE => line_from(text, place as usize),
         7 => line_from(cand, place as usize),
         _ => &[],
     }

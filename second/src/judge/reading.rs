@@ -60,11 +60,26 @@ pub enum Statement {
     Comment { bytes: Vec<u8> },
 }
 
-/// A statement with the place of its line's first byte.
+/// What a field that uses something names: a term or an element.
+#[derive(Clone, Copy, Debug, PartialEq, Eq)]
+pub enum Used {
+    Term(u32),
+    Element(u32),
+}
+
+/// A use, with the place of its field.
+#[derive(Clone, Copy, Debug, PartialEq, Eq)]
+pub struct Use {
+    pub place: u32,
+    pub of: Used,
+}
+
+/// A statement with the place of its line's first byte, and its uses from left to right.
 #[derive(Clone, Debug, PartialEq, Eq)]
 pub struct Line {
     pub place: u32,
     pub statement: Statement,
+    pub uses: Vec<Use>,
 }
 
 // Right inside the range, else the number given.
@@ -108,6 +123,7 @@ fn first_line(text: &[u8]) -> Result<(), Refusal> {
 // Reads one line; none for the line `0`.
 fn line(fields: &mut Fields) -> Result<Option<Line>, Refusal> {
     let place = fields.at() as u32;
+    let mut uses = Vec::new();
     let statement = match fields.natural(statement_type)? {
         0 => {
             fields.line_end()?;
@@ -115,11 +131,11 @@ fn line(fields: &mut Fields) -> Result<Option<Line>, Refusal> {
         }
         1 => rule(fields)?,
         4 => output(fields)?,
-        9 => theory(fields)?,
+        9 => theory(fields, &mut uses)?,
         _ => comment(fields)?,
     };
     fields.line_end()?;
-    Ok(Some(Line { place, statement }))
+    Ok(Some(Line { place, statement, uses }))
 }
 
 // Statement types: carried, not carried, or unknown.
@@ -192,7 +208,7 @@ fn number_value(value: i64) -> Finding {
     within(value, -LARGEST_NUMBER, LARGEST_NUMBER, BEYOND)
 }
 
-// What stands as t in a compound.
+// The value of t in a compound.
 fn base_value(value: i64) -> Finding {
     within(value, -3, i64::from(LARGEST_INDEX), BEYOND)
 }
@@ -239,10 +255,19 @@ fn weighted_literals(fields: &mut Fields) -> Result<Vec<Weighted>, Refusal> {
     (0..n).map(|_| weighted(fields)).collect()
 }
 
-// A space, a count, and that many term or element numbers.
-fn indices(fields: &mut Fields) -> Result<Vec<u32>, Refusal> {
+// A space, then the number of a term or an element that is used; notes the use.
+fn used(fields: &mut Fields, uses: &mut Vec<Use>, of: fn(u32) -> Used) -> Result<u32, Refusal> {
+    fields.space()?;
+    let place = fields.at() as u32;
+    let number = fields.natural(index)? as u32;
+    uses.push(Use { place, of: of(number) });
+    Ok(number)
+}
+
+// A space, a count, and that many numbers of terms or elements that are used; notes the uses.
+fn all_used(fields: &mut Fields, uses: &mut Vec<Use>, of: fn(u32) -> Used) -> Result<Vec<u32>, Refusal> {
     let n = next_natural(fields, count)?;
-    (0..n).map(|_| next_small(fields, index)).collect()
+    (0..n).map(|_| used(fields, uses, of)).collect()
 }
 
 // A space, a length, a space, and that many string bytes.
@@ -277,14 +302,14 @@ fn output(fields: &mut Fields) -> Result<Statement, Refusal> {
     Ok(Statement::Output { string, condition })
 }
 
-// A theory statement after its type.
-fn theory(fields: &mut Fields) -> Result<Statement, Refusal> {
+// A theory statement after its type; notes its uses.
+fn theory(fields: &mut Fields, uses: &mut Vec<Use>) -> Result<Statement, Refusal> {
     match next_natural(fields, theory_type)? {
         0 => number(fields),
         1 => symbol(fields),
-        2 => compound(fields),
-        4 => element(fields),
-        kind => atom(fields, kind == 6),
+        2 => compound(fields, uses),
+        4 => element(fields, uses),
+        kind => atom(fields, uses, kind == 6),
     }
 }
 
@@ -303,39 +328,50 @@ fn symbol(fields: &mut Fields) -> Result<Statement, Refusal> {
 }
 
 // A compound term.
-fn compound(fields: &mut Fields) -> Result<Statement, Refusal> {
+fn compound(fields: &mut Fields, uses: &mut Vec<Use>) -> Result<Statement, Refusal> {
     let term = next_small(fields, index)?;
-    let base = match next_integer(fields, base_value)? {
+    let base = base(fields, uses)?;
+    let arguments = all_used(fields, uses, Used::Term)?;
+    Ok(Statement::Compound { term, base, arguments })
+}
+
+// What stands as t in a compound; notes the use of a term.
+fn base(fields: &mut Fields, uses: &mut Vec<Use>) -> Result<Base, Refusal> {
+    fields.space()?;
+    let place = fields.at() as u32;
+    let base = match fields.integer(base_value)? {
         -1 => Base::Tuple,
         -2 => Base::Set,
         -3 => Base::List,
         t => Base::Term(t as u32),
     };
-    let arguments = indices(fields)?;
-    Ok(Statement::Compound { term, base, arguments })
+    if let Base::Term(t) = base {
+        uses.push(Use { place, of: Used::Term(t) });
+    }
+    Ok(base)
 }
 
 // An element with its terms and condition.
-fn element(fields: &mut Fields) -> Result<Statement, Refusal> {
+fn element(fields: &mut Fields, uses: &mut Vec<Use>) -> Result<Statement, Refusal> {
     let element = next_small(fields, index)?;
-    let terms = indices(fields)?;
+    let terms = all_used(fields, uses, Used::Term)?;
     let condition = literals(fields)?;
     Ok(Statement::Element { element, terms, condition })
 }
 
 // A theory atom, with operator and bound if it is guarded.
-fn atom(fields: &mut Fields, guarded: bool) -> Result<Statement, Refusal> {
+fn atom(fields: &mut Fields, uses: &mut Vec<Use>, guarded: bool) -> Result<Statement, Refusal> {
     let atom = next_small(fields, theory_atom)?;
-    let name = next_small(fields, index)?;
-    let elements = indices(fields)?;
-    let guard = if guarded { Some(guard(fields)?) } else { None };
+    let name = used(fields, uses, Used::Term)?;
+    let elements = all_used(fields, uses, Used::Element)?;
+    let guard = if guarded { Some(guard(fields, uses)?) } else { None };
     Ok(Statement::Theory { atom, name, elements, guard })
 }
 
 // The operator term and the bound term.
-fn guard(fields: &mut Fields) -> Result<(u32, u32), Refusal> {
-    let operator = next_small(fields, index)?;
-    let bound = next_small(fields, index)?;
+fn guard(fields: &mut Fields, uses: &mut Vec<Use>) -> Result<(u32, u32), Refusal> {
+    let operator = used(fields, uses, Used::Term)?;
+    let bound = used(fields, uses, Used::Term)?;
     Ok((operator, bound))
 }
 

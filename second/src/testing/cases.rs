@@ -3,9 +3,10 @@
 use super::damaging::damage;
 use super::generating::{candidate, loose, network, plan, Case};
 use super::random::Random;
+use super::term_faults;
 
-// A case without damage: a small plan, now and then loose theory lines or a network.
-fn undamaged(random: &mut Random) -> Case {
+/// A case without damage: a small plan, now and then loose theory lines or a network.
+pub fn undamaged(random: &mut Random) -> Case {
     if random.once_in(15) {
         return network(random);
     }
@@ -14,21 +15,37 @@ fn undamaged(random: &mut Random) -> Case {
     (text, cand)
 }
 
-/// A random case: as made, or with text or candidate damaged.
-// Half of the cases are as made; the rest get one or two damages.
-pub fn case(random: &mut Random) -> Case {
-    let (mut text, mut cand) = undamaged(random);
-    let damages = match random.below(8) {
-        0..=3 => 0,
-        7 => 2,
-        _ => 1,
-    };
-    for _ in 0..damages {
-        if random.once_in(5) {
-            damage(random, &mut cand);
-        } else {
-            damage(random, &mut text);
+/// A case with damage: three in five to what the theory lines say, else to the bytes.
+// One in four of the first has damaged bytes too: 3 to 5 come before what is wrong with the terms, 7 behind it.
+pub fn damaged(random: &mut Random, (text, cand): &Case) -> Case {
+    let (mut text, mut cand) = (text.clone(), cand.clone());
+    if random.below(5) < 3 {
+        text = term_faults::put(random, &text);
+        if random.once_in(4) {
+            damage_one(random, &mut text, &mut cand);
         }
+    } else {
+        let damages = *random.one_of(&[1, 1, 1, 2, 3, 4]);
+        (0..damages).for_each(|_| damage_one(random, &mut text, &mut cand));
     }
     (text, cand)
+}
+
+// Damages the text, or once in four the candidate.
+fn damage_one(random: &mut Random, text: &mut Vec<u8>, cand: &mut Vec<u8>) {
+    if random.once_in(4) {
+        damage(random, cand);
+    } else {
+        damage(random, text);
+    }
+}
+
+/// A random case: as made, or with damage.
+pub fn case(random: &mut Random) -> Case {
+    let made = undamaged(random);
+    if random.once_in(2) {
+        made
+    } else {
+        damaged(random, &made)
+    }
 }

@@ -31,7 +31,7 @@ pub fn all_atoms(atoms: usize) -> Vec<u8> {
 }
 
 // A line of numbers.
-fn line_of(numbers: &[i64]) -> Vec<u8> {
+pub fn line_of(numbers: &[i64]) -> Vec<u8> {
     let words: Vec<String> = numbers.iter().map(i64::to_string).collect();
     words.join(" ").into_bytes()
 }
@@ -52,7 +52,7 @@ fn literals(random: &mut Random, atoms: usize, most: usize) -> Vec<i64> {
 }
 
 // One literal, negated once in three.
-fn literal(random: &mut Random, atoms: usize) -> i64 {
+pub fn literal(random: &mut Random, atoms: usize) -> i64 {
     let atom = random.from_to(1, atoms as i64);
     if random.once_in(3) {
         -atom
@@ -62,7 +62,7 @@ fn literal(random: &mut Random, atoms: usize) -> i64 {
 }
 
 // A count and the numbers.
-fn counted(numbers: &[i64]) -> Vec<i64> {
+pub fn counted(numbers: &[i64]) -> Vec<i64> {
     let mut all = vec![numbers.len() as i64];
     all.extend(numbers);
     all
@@ -189,17 +189,7 @@ struct Theory<'a> {
     elements: Vec<i64>,
 }
 
-impl<'a> Theory<'a> {
-    // Numbers to give out, in random order.
-    fn new(random: &'a mut Random) -> Theory<'a> {
-        let spread = if random.once_in(4) { 1024 } else { 60 };
-        let mut terms: Vec<i64> = (0..spread).collect();
-        let mut elements: Vec<i64> = (0..spread).collect();
-        random.shuffle(&mut terms);
-        random.shuffle(&mut elements);
-        Theory { random, lines: Vec::new(), terms, elements }
-    }
-
+impl Theory<'_> {
     // A term number not given out before.
     fn fresh_term(&mut self) -> i64 {
         self.terms.pop().unwrap_or(0)
@@ -261,9 +251,19 @@ impl<'a> Theory<'a> {
     }
 }
 
-// Lines for some differences over the atoms given.
+// Lines for some differences over the atoms given, with numbers in random order.
 fn differences(random: &mut Random, atoms: &[i64]) -> Vec<Vec<u8>> {
-    let mut theory = Theory::new(random);
+    let spread = if random.once_in(4) { 1024 } else { 60 };
+    let mut terms: Vec<i64> = (0..spread).collect();
+    let mut elements: Vec<i64> = (0..spread).collect();
+    random.shuffle(&mut terms);
+    random.shuffle(&mut elements);
+    difference_lines(random, terms, elements, atoms)
+}
+
+// Lines for some differences over the atoms given; the numbers of terms and elements are given out from the last.
+pub fn difference_lines(random: &mut Random, terms: Vec<i64>, elements: Vec<i64>, atoms: &[i64]) -> Vec<Vec<u8>> {
+    let mut theory = Theory { random, lines: Vec::new(), terms, elements };
     let diff = theory.symbol(b"diff");
     let minus = theory.symbol(b"-");
     let other_minus = theory.symbol(b"-");
@@ -282,8 +282,8 @@ fn differences(random: &mut Random, atoms: &[i64]) -> Vec<Vec<u8>> {
     theory.lines
 }
 
-// Two lists of lines in one, each keeping its order.
-fn merge(random: &mut Random, a: Vec<Vec<u8>>, b: Vec<Vec<u8>>) -> Vec<Vec<u8>> {
+// Two lists in one, each keeping its order.
+pub fn merge<T>(random: &mut Random, a: Vec<T>, b: Vec<T>) -> Vec<T> {
     let (mut a, mut b) = (a.into_iter().peekable(), b.into_iter().peekable());
     let mut all = Vec::new();
     while a.peek().is_some() || b.peek().is_some() {

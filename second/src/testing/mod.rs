@@ -12,4 +12,5 @@ pub mod proved;
 pub mod random;
 #[cfg(plan_judge)]
 pub mod stack;
+pub mod term_faults;
 pub mod vectors;

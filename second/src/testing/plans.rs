@@ -299,6 +299,59 @@ const DIFFERENCES: &[Plan] = &[
     ),
 ];
 
+/// A text that one of 61 to 64 refuses, the refusal, and what is shown for it.
+pub struct Unsound {
+    pub name: &'static str,
+    pub text: String,
+    pub refusal: Refusal,
+    pub shown: &'static str,
+}
+
+// Lines that one of 61 to 64 refuses: a name, the lines, the number and place, and what is shown.
+type Faulty = (&'static str, &'static str, (u32, u32), &'static str);
+const FAULTY: &[Faulty] = &[
+    // Twice, also where the line uses what is undefined; a term and an element are of two countings.
+    ("terms-twice", "9 0 5 7\n9 0 5 7\n", (61, 18), "9 0 5 7"),
+    ("terms-twice-and-use", "9 0 5 7\n9 2 5 1 1 8\n", (61, 18), "9 2 5 1 1 8"),
+    ("terms-element-twice", "9 4 3 0 0\n9 4 3 0 1 1\n", (61, 20), "9 4 3 0 1 1"),
+    ("terms-element-twice-and-use", "9 4 3 0 0\n9 4 3 1 8 0\n", (61, 20), "9 4 3 1 8 0"),
+    ("terms-two-countings", "9 0 3 1\n9 4 3 1 3 0\n9 5 3 3 1 3\n", (64, 30), "9 5 3 3 1 3"),
+    ("terms-element-no-term", "9 4 3 0 0\n9 5 1 3 0\n", (62, 26), "3 0"),
+    ("terms-term-no-element", "9 0 3 1\n9 5 1 3 1 3\n", (62, 28), "3"),
+    // Uses in compounds and elements: the leftmost, by what earlier lines define.
+    ("terms-t", "9 2 7 1 1 8\n", (62, 16), "1 1 8"),
+    ("terms-argument", "9 0 1 5\n9 2 7 1 2 1 88\n", (62, 30), "88"),
+    ("terms-own", "9 0 1 5\n9 2 7 1 1 7\n", (62, 28), "7"),
+    ("terms-list", "9 2 7 -3 1 12\n", (62, 21), "12"),
+    ("terms-later", "9 4 0 1 6 0\n9 0 6 1\n", (62, 18), "6 0"),
+    ("terms-last-of-two", "9 0 6 1\n9 4 0 2 6 7 1 -9\n", (62, 28), "7 1 -9"),
+    // Uses in theory atoms.
+    ("terms-elements", "9 1 0 4 diff\n9 6 100 0 2 7 8 2 5\n", (62, 35), "7 8 2 5"),
+    ("terms-operator", "9 1 0 4 diff\n9 6 100 0 0 2 5\n", (62, 35), "2 5"),
+    ("terms-plain-element", "9 1 0 4 diff\n9 5 9 0 1 3\n", (62, 33), "3"),
+    ("terms-plain", "9 1 0 4 diff\n9 5 9 0 0\n", (64, 23), "9 5 9 0 0"),
+    // Two faults in one line, and in two.
+    ("terms-no-difference-then-twice", "9 1 0 4 diff\n9 5 9 0 0\n9 1 0 4 diff\n", (64, 23), "9 5 9 0 0"),
+    ("terms-twice-then-no-difference", "9 1 0 4 diff\n9 1 0 4 diff\n9 5 9 0 0\n", (61, 23), "9 1 0 4 diff"),
+];
+
+// Lines that are refused behind those of one difference; the places are counted from there.
+const FAULTY_BEHIND: &[Faulty] = &[
+    ("terms-name", "9 6 6 9 1 0 2 3\n", (62, 6), "9 1 0 2 3"),
+    ("terms-last-of-three", "9 6 6 0 3 0 0 1 2 3\n", (62, 14), "1 2 3"),
+    ("terms-operator-and-bound", "9 6 6 0 1 0 9 9\n", (62, 12), "9 9"),
+    ("terms-bound", "9 6 6 0 1 0 2 9\n", (62, 14), "9"),
+    ("terms-bound-many", "9 6 6 0 12 0 0 0 0 0 0 0 0 0 0 0 0 2 999\n", (62, 37), "999"),
+    ("terms-second", "9 6 5 0 1 0 2 3\n", (63, 0), "9 6 5 0 1 0 2 3"),
+    ("terms-second-and-use", "9 6 5 0 1 0 2 9\n", (62, 14), "9"),
+    ("terms-second-no-difference", "9 5 5 0 0\n", (63, 0), "9 5 5 0 0"),
+    ("terms-second-use-no-difference", "9 5 5 0 2 0 9\n", (62, 12), "9"),
+    ("terms-two-elements", "9 6 6 0 2 0 0 2 3\n", (64, 0), "9 6 6 0 2 0 0 2 3"),
+];
+
+// The lines of one difference: atom 5, x and y and the bound the numeric term 3.
+const DIFFERENCE: &str = "9 1 0 4 diff\n9 1 1 1 -\n9 1 2 2 <=\n9 0 3 7\n9 2 4 1 2 3 3\n9 4 0 1 4 0\n9 6 5 0 1 0 2 3\n";
+
 // The terms of every plan of differences: 0 `diff`, 1 `-`, 2 `<=`; each other name is a string.
 fn differences(rules: &str, differences: &[(u32, u32, u32, i32)]) -> String {
     let mut names: Vec<u32> = differences.iter().flat_map(|d| [d.1, d.2]).collect();
@@ -314,9 +367,12 @@ fn differences(rules: &str, differences: &[(u32, u32, u32, i32)]) -> String {
     text(&lines)
 }
 
+// The first line.
+const FIRST_LINE: &str = "asp 1 0 0\n";
+
 // A text with these lines between the first line and `0`.
 fn text(lines: &str) -> String {
-    format!("asp 1 0 0\n{lines}0\n")
+    format!("{FIRST_LINE}{lines}0\n")
 }
 
 // A pair.
@@ -345,6 +401,19 @@ fn document() -> Vec<Pair> {
     pairs.extend(each("P-without-third", &without, &subsets));
     pairs.extend(each("empty-text", "", &["\n", "", "x"]));
     pairs
+}
+
+// An unsound text from lines in front, lines that are refused, and where places are counted from.
+fn unsound_text(front: &str, (name, lines, (number, place), shown): &Faulty, from: usize) -> Unsound {
+    let refusal = Refusal { number: *number, place: *place + from as u32 };
+    Unsound { name, text: text(&format!("{front}{lines}")), refusal, shown }
+}
+
+/// Texts with each thing that is wrong with terms, alone or several at once.
+pub fn unsound() -> Vec<Unsound> {
+    let from = FIRST_LINE.len() + DIFFERENCE.len();
+    let behind = FAULTY_BEHIND.iter().map(|faulty| unsound_text(DIFFERENCE, faulty, from));
+    FAULTY.iter().map(|faulty| unsound_text("", faulty, 0)).chain(behind).collect()
 }
 
 // P with each line left out, doubled, and moved behind the next.
@@ -382,8 +451,8 @@ fn ordered() -> Vec<Pair> {
         pair("3-before-5", text("9 0 5 -0\n9 0 6 1000001\n"), "\n"),
         pair("5-before-3", text("9 0 6 1000001\n9 0 5 -0\n"), "\n"),
         pair("4-before-3", text("2 x\n"), "\n"),
-        pair("3-before-6", text("9 2 0 1 0\n") + "\n", ""),
-        pair("6-before-7", text("9 2 0 1 0\n"), ""),
+        pair("3-before-62", text("9 2 0 1 0\n") + "\n", ""),
+        pair("62-before-7", text("9 2 0 1 0\n"), ""),
         pair("7-before-8", text("1 0 0 0 0\n"), "x\n"),
         pair("8-before-9", text("1 0 0 0 0\n"), "1\n"),
         pair("8-first", text("1 1 0 0 0\n10 x\n1 0 0 0 1 1\n1 0 1 2 0 0\n"), "1\n"),
@@ -579,6 +648,7 @@ pub fn pairs() -> Vec<Pair> {
         .extend(DIFFERENCES.iter().flat_map(|(name, rules, list, cands)| each(name, &differences(rules, list), cands)));
     pairs.extend(changed());
     pairs.extend(ordered());
+    pairs.extend(unsound().iter().map(|u| pair(u.name, &u.text, "\n")));
     pairs.extend(moved());
     pairs
 }

@@ -25,7 +25,7 @@ fn input(name: &'static str, case: Case, number: u32) -> Input {
     Input { name, case, number }
 }
 
-// Plan P and its neighbours: one for each number from 3 to 10.
+// Plan P and its neighbours: one for each number that reading and judging it can give.
 fn neighbours() -> Vec<Input> {
     let p = |cand: &str| (PLAN.into(), cand.into());
     let changed = |from: &str, to: &str| (PLAN.replace(from, to).into(), b"1 2 3\n".to_vec());
@@ -34,7 +34,10 @@ fn neighbours() -> Vec<Input> {
         input("no end", changed("\n0\n", "\n"), 3),
         input("not carried", changed("1 1 1 1 0 0\n", "1 1 1 1 0 0\n2 0 1 1 1\n"), 4),
         input("beyond its bounds", changed("9 6 3 0 1 1 2 9\n", "9 6 4097 0 1 1 2 9\n"), 5),
-        input("unsound", changed("9 1 4 4 recv\n", ""), 6),
+        input("defined twice", changed("9 0 8 5\n", "9 0 4 5\n"), 61),
+        input("used before", changed("9 1 4 4 recv\n", ""), 62),
+        input("second theory atom", changed("9 6 3 0 1 1 2 9\n", "9 6 2 0 1 1 2 9\n"), 63),
+        input("no difference", changed("9 6 3 0 1 1 2 9\n", "9 5 3 0 1 1\n"), 64),
         input("candidate malformed", p("3 1\n"), 7),
         input("broken rule", p("1 3\n"), 8),
         input("unfounded atom", p("2 3\n"), 9),

@@ -2,6 +2,7 @@
 pub mod further;
 pub mod writing;
 use second::judge::judging::{CYCLE_PLACES, ROOM_BYTES};
+use second::testing::plans::{unsound, Unsound};
 use second::{Body, Difference, Literal, Refusal, Verdict};
 
 pub const P: &str = "asp 1 0 0
@@ -122,6 +123,43 @@ pub fn check_traps(judge: impl Fn(&str, &str) -> Verdict) {
             Verdict::Refused(r) => Some((r.number, r.place)),
         };
         assert_eq!(refused, *wanted, "{lines}{cand}");
+    }
+}
+
+// A text with so many bytes more: a comment behind the first line, whose line has four bytes without its own.
+fn lengthened(text: &str, more: usize) -> String {
+    match more {
+        0 => text.to_string(),
+        _ => text.replacen('\n', &format!("\n10 {}\n", "c".repeat(more - 4)), 1),
+    }
+}
+
+// Asks of a program what it says to each unsound text, also a long one, and what it shows; for 6 it shows nothing.
+pub fn check_terms(judge: impl Fn(&str, &str) -> Verdict, show: impl Fn(&str, u32, u32) -> String) {
+    for Unsound { name, text, refusal: Refusal { number, place }, shown } in unsound() {
+        for length in [text.len(), 2_000, 2_001, 60_000] {
+            let more = length - text.len();
+            let (text, place) = (lengthened(&text, more), place + more as u32);
+            assert_eq!(judge(&text, "\n"), refused(number, place), "{name} {length}");
+            assert_eq!(show(&text, number, place), shown, "{name} {length}");
+            assert_eq!(show(&text, 6, place), "", "{name} {length}");
+        }
+    }
+}
+
+// Asks of a program where it finds what is undefined in a theory atom with as many elements as a count allows.
+pub fn check_crowded(judge: impl Fn(&str, &str) -> Verdict) {
+    let front = "9 1 0 4 diff\n9 1 2 2 <=\n9 0 3 7\n9 4 0 0 0\n";
+    let line = 10 + front.len() as u32;
+    let many = " 0".repeat(4_094);
+    for (rest, number, place) in [
+        (format!("9{many} 9 9 9"), 62, 13),
+        (format!("0{many} 9 9 9"), 62, 15 + 8_188),
+        (format!("0{many} 0 9 9"), 62, 17 + 8_188),
+        (format!("0{many} 0 2 9"), 62, 19 + 8_188),
+        (format!("0{many} 0 2 3"), 64, 0),
+    ] {
+        assert_eq!(judge(&wrap(&format!("{front}9 6 1 0 4096 {rest}\n")), "\n"), refused(number, line + place));
     }
 }
 

@@ -17,8 +17,8 @@ use Rattle.aspif.specs.Statements.{Line}
 use Rattle.aspif.specs.inner.Kept.{FromTo, AllInRange}
 use Rattle.aspif.specs.inner.Bitmap.{atomsOf, EndsAt}
 use Rattle.diffs.specs.Diff.{Diff, Earliest}
-use Rattle.terms.specs.Terms.{Stated, differences}
-use Rattle.terms.specs.inner.Tables.{tabulated, heldAt, SmallDiff}
+use Rattle.terms.specs.Terms.{Stated}
+use Rattle.terms.specs.inner.Tables.{tabulated, heldAt, SmallDiff, States}
 use Rattle.terms.specs.inner.Values.{Within}
 use Rattle.judge.specs.Plan.{Asked, Rooms, Ready, ready}
 use Rattle.judge.specs.Judged.{Result, refusal, refusing, accepting, table, Timed, Judged}
@@ -35,7 +35,7 @@ stated m atoms xs ys ks = tabulated m (heldAt atoms xs ys ks)
 -- the lines ls keep to their bounds, and the first m places of four slices have the differences that they state
 pub record Stating (ls : List Line) (m : ℕ) (atoms xs ys : List ℕ) (ks : List ℤ) : Type 0 where
   pub small : AllInRange ls
-  pub stated : differences ls ≡ got (stated m atoms xs ys ks)
+  pub stated : States ls (stated m atoms xs ys ks)
   pub roomy : Within m atoms xs ys ks
 
 -- a bitmap of the atoms of a candidate, to its last or further

@@ -8,13 +8,13 @@ use Rattle.terms.proofs.collect.Statement.{statement}
 use Rattle.terms.proofs.collect.Tie as tie
 
 abbrev Inv-loop : tie.InvT-loop
-Inv-loop tape n atoms₀ xs₀ ys₀ ks₀ terms₀ elements₀ seen₀ p₀ left₀ m₀ atoms xs ys ks terms elements seen p left m = Underway tape n p left m terms elements seen atoms xs ys ks × Kept atoms₀ xs₀ ys₀ ks₀ atoms xs ys ks
+Inv-loop text tape n atoms₀ xs₀ ys₀ ks₀ terms₀ elements₀ seen₀ p₀ left₀ m₀ atoms xs ys ks terms elements seen p left m = Underway text tape n p left m terms elements seen atoms xs ys ks × Kept atoms₀ xs₀ ys₀ ks₀ atoms xs ys ks
 
 abbrev μ-loop : tie.MeasureT-loop
-μ-loop tape n atoms₀ xs₀ ys₀ ks₀ terms₀ elements₀ seen₀ p₀ left₀ m₀ atoms xs ys ks terms elements seen p left m = left
+μ-loop text tape n atoms₀ xs₀ ys₀ ks₀ terms₀ elements₀ seen₀ p₀ left₀ m₀ atoms xs ys ks terms elements seen p left m = left
 
 loop-holds : tie.Need-loop-holds Inv-loop μ-loop
-loop-holds c = (at-first _ _ _ _ _ _ (c .before .before .before .before .pre .0 .0), kept-start _ _ _ _)
+loop-holds c = (at-first _ _ _ _ _ _ _ (c .before .before .before .before .before .pre .0 .0), kept-start _ _ _ _)
 
 slice-aggregate-take-line : tie.Need-slice-aggregate-take-line Inv-loop μ-loop
 slice-aggregate-take-line c = search needs
@@ -28,13 +28,13 @@ slice-aggregate-take-line-3 c = search needs
 take-line-requires : tie.Need-take-line-requires Inv-loop μ-loop
 take-line-requires c κs =
     let u = c .before .before .before .before .loop .inv .0 in
-    (ahead-next _ _ _ (c .before .before .before .loop-test .taken) (u .ahead) .0, u .tables, c .before .before .before .before .before .before .before .before .before .pre .0 .1)
+    (ahead-next _ _ _ (c .before .before .before .loop-test .taken) (u .ahead) .0, u .tables, c .before .before .before .before .before .before .before .before .before .before .pre .0 .1)
 
 store-requires : tie.Need-store-requires Inv-loop μ-loop
 store-requires c κs =
     let i = c .before .before .before .before .before .before .before .before .before .before .before .before .loop .inv in
     let t = c .before .before .before .before .before .before .before .take-line in
-    room-left _ _ (t .ensures) (i .0 .counted) (after-inside (ahead-next _ _ _ (c .before .before .before .before .before .before .before .before .before .before .before .loop-test .taken) (i .0 .ahead) .0)) (kept-room (i .1) (c .before .before .before .before .before .before .before .before .before .before .before .before .before .before .before .before .before .pre .1))
+    room-left _ _ (t .ensures) (i .0 .counted) (after-inside (ahead-next _ _ _ (c .before .before .before .before .before .before .before .before .before .before .before .loop-test .taken) (i .0 .ahead) .0)) (kept-room (i .1) (c .before .before .before .before .before .before .before .before .before .before .before .before .before .before .before .before .before .before .pre .1))
 
 enum-known-r : tie.Need-enum-known-r Inv-loop μ-loop
 enum-known-r c = search needs
@@ -74,7 +74,7 @@ loop-again c =
     let s = c .before .before .before .before .before .before .before .before .before .before .before .store in
     let t = c .before .before .before .before .before .before .before .before .before .before .before .before .before .before .before .before .before .before .before .take-line in
     let i = c .before .before .before .before .before .before .before .before .before .before .before .before .before .before .before .before .before .before .before .before .before .before .before .before .loop .inv in
-    (at-next (c .before .before .before .before .before .before .before .before .before .before .before .before .before .before .before .before .before .before .before .before .before .before .before .loop-test .taken) (i .0) (t .ensures) (s .last .1 .0) (s .last .1 .1 .0) (s .last .1 .1 .1 .0) (s .last .1 .1 .1 .1 .0) _ (s .ensures) _ _ (c .before .before .r .given .1) (c .after-at .ensures) (t .kept .1 .1 .0) (t .kept .1 .1 .1 .0) (t .kept .1 .1 .1 .1 .0), record { of-atoms = s .kept .1 .0 ∙ i .1 .of-atoms; of-xs = s .kept .1 .1 .0 ∙ i .1 .of-xs; of-ys = s .kept .1 .1 .1 .0 ∙ i .1 .of-ys; of-ks = s .kept .1 .1 .1 .1 .0 ∙ i .1 .of-ks })
+    (at-next (c .before .before .before .before .before .before .before .before .before .before .before .before .before .before .before .before .before .before .before .before .before .before .before .loop-test .taken) (i .0) (t .ensures) (s .last .1 .0) (s .last .1 .1 .0) (s .last .1 .1 .1 .0) (s .last .1 .1 .1 .1 .0) _ (s .ensures) _ _ (c .before .before .r .given .1) (c .after-at .ensures) (t .kept .1 .1 .1 .0) (t .kept .1 .1 .1 .1 .0) (t .kept .1 .1 .1 .1 .1 .0), record { of-atoms = s .kept .1 .0 ∙ i .1 .of-atoms; of-xs = s .kept .1 .1 .0 ∙ i .1 .of-xs; of-ys = s .kept .1 .1 .1 .0 ∙ i .1 .of-ys; of-ks = s .kept .1 .1 .1 .1 .0 ∙ i .1 .of-ks })
 
 same-length-5 : tie.Need-same-length-5 Inv-loop μ-loop
 same-length-5 c = search needs
@@ -89,7 +89,7 @@ same-length-8 : tie.Need-same-length-8 Inv-loop μ-loop
 same-length-8 c = search needs
 
 returns-2 : tie.Need-returns-2 Inv-loop μ-loop
-returns-2 c = (at-last _ _ _ _ _ _ _ _ _ _ _ _ (c .loop-test .left) (c .before .loop .inv .0), at-end (c .before .loop .inv .0) (c .before .loop .inv .1) (c .before .before .before .before .before .before .pre .1))
+returns-2 c = (at-last _ _ _ _ _ _ _ _ _ _ _ _ _ (c .loop-test .left) (c .before .loop .inv .0), at-end (c .before .loop .inv .0) (c .before .loop .inv .1) (c .before .before .before .before .before .before .before .pre .1))
 
 pub collect-spec : {M : Type 1} → statement M
 collect-spec =

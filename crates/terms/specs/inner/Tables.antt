@@ -11,12 +11,13 @@ use lib.IntN.{ℤ, pos, negsuc}
 use Rattle.basics.specs.Bools.{pick}
 use Rattle.faults.specs.Limits.{largestNumber}
 use Rattle.faults.specs.inner.Places.{termPlaces}
-use Rattle.faults.specs.Answer.{Answer, got, refused, mapped}
+use Rattle.faults.specs.Answer.{Answer, got, mapped}
 use Rattle.aspif.specs.Statements.{Term, num, str, comp, Element, elem, Theory, defines, collects, states, Line, theoryIn}
 use Rattle.aspif.specs.inner.Words.{numberKind, stringKind, compoundKind, elementKind, atomKind, guardedKind, word, saysAt}
 use Rattle.aspif.specs.inner.Kept.{FromTo}
 use Rattle.diffs.specs.Diff.{Diff}
-use Rattle.terms.specs.Terms.{Env, isMinus, Stated, differenceOf, faulty, statedBy, more}
+use Rattle.terms.specs.Terms.{Env, isMinus, Stated, differenceOf, statedBy, more}
+use Rattle.terms.specs.Reasons.{reasonOf, answered, differences}
 use Rattle.terms.specs.declared.lines.Role.{Role}
 use Rattle.terms.specs.declared.lines.Role.the-variants as role
 
@@ -76,14 +77,14 @@ lookIn t terms u = termOn t (word terms u)
 unfoldable pub elementsIn : List ℕ → (table : List ℕ) → ℕ → Option Element
 elementsIn t elements v = elementOn t (word elements v)
 
--- an atom is entered
-unfoldable pub takenIn : (table : List ℕ) → ℕ → Bool
-takenIn seen a = not (eqb (word seen a) 0)
+-- a number is entered in a table, of terms, of elements or of atoms
+unfoldable pub entered : (table : List ℕ) → ℕ → Bool
+entered table u = not (eqb (word table u) 0)
 
 -- what three tables say
 unfoldable pub envOf : List ℕ → (terms elements seen : List ℕ) → Env
 envOf t terms elements seen =
-    record { terms = lookIn t terms; elements = elementsIn t elements; taken = takenIn seen }
+    record { terms = lookIn t terms; elements = elementsIn t elements; taken = entered seen }
 
 -- the difference that a theory atom states
 abbrev pub differenceIn : (ℕ → Option Term) → (ℕ → Option Element) → Option Theory → Option Diff
@@ -113,13 +114,16 @@ knownWith env (some (collects v e)) = record { terms = env .terms; elements = ch
 knownWith env (some (states a p vs g)) = record { terms = env .terms; elements = env .elements; taken = changed (env .taken) a true }
 knownWith env none = env
 
--- the differences that lines state, behind what is known; or 6 at the first that is faulty
-unfoldable pub walk : Env → List Line → Answer (List Stated)
-walk env [] = got []
-walk env (l ∷ ls) =
-    pick (faulty env (theoryIn (l .says)))
-    (refused 6 (l .place))
-    (more (statedBy env (theoryIn (l .says))) (walk (knownWith env (theoryIn (l .says))) ls))
+-- the differences that lines of the text state, behind what is known; or what is wrong with the first of which something is
+unfoldable pub walk : (text : List ℕ) → Env → List Line → Answer (List Stated)
+walk text env [] = got []
+walk text env (l ∷ ls) =
+    answered text (l .place) (reasonOf env (theoryIn (l .says)))
+    (more (statedBy env (theoryIn (l .says))) (walk text (knownWith env (theoryIn (l .says))) ls))
+
+-- the lines ls state the differences ds: a text only places what is wrong
+abbrev pub States : List Line → List Stated → Type 0
+States ls ds = (text : List ℕ) → differences text ls ≡ got ds
 
 -- ---- the differences that four slices hold
 

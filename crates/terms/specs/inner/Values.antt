@@ -18,10 +18,12 @@ use Rattle.terms.specs.inner.Tables.{envOf, walk, heldAt, tabulated, gat
 use Rattle.terms.specs.declared.difference.Limit.{Limit}
 use Rattle.terms.specs.declared.difference.Sides.{Sides}
 use Rattle.terms.specs.declared.difference.Said.{Said}
+use Rattle.terms.specs.declared.uses.Use.{Use}
 use Rattle.terms.specs.declared.lines.Turn.{Turn}
 use Rattle.terms.specs.declared.difference.Limit.the-variants as limit
 use Rattle.terms.specs.declared.difference.Sides.the-variants as sides
 use Rattle.terms.specs.declared.difference.Said.the-variants as said
+use Rattle.terms.specs.declared.uses.Use.the-variants as used
 use Rattle.terms.specs.declared.lines.Turn.the-variants as turn
 
 -- a bound, or none
@@ -38,6 +40,11 @@ asSides sides.Not = none
 abbrev pub asSaid : Said → Option Diff
 asSaid (said.Is x y k) = some (record { x = x .0; y = y .0; k = k })
 asSaid said.Not = none
+
+-- the field of a use, or none
+abbrev pub asUse : Use → Option ℕ
+asUse (used.At f) = some f
+asUse used.None = none
 
 -- the differences that stand in the first places of four slices
 abbrev pub asDifferences : Step → (atoms xs ys : List ℕ) → List ℤ → Answer (List Stated)
@@ -93,8 +100,8 @@ Lasting (turn.States a x y k) t p = p + differenceWords ≤ after t p
 Lasting (turn.Refused r) t p = Unit {0}
 
 -- with the tables after it, the turn goes on as the line at p and those behind it did before
-pub record Turned (t : List ℕ) (p : ℕ) (terms elements seen : List ℕ) (r : Turn) (terms′ elements′ seen′ : List ℕ) : Type 0 where
-  pub goes : (ls : List Line) → bind (asTurn r) (λ d. more d (walk (envOf t terms′ elements′ seen′) ls)) ≡ walk (envOf t terms elements seen) (lineAt t p ∷ ls)
+pub record Turned (text t : List ℕ) (p : ℕ) (terms elements seen : List ℕ) (r : Turn) (terms′ elements′ seen′ : List ℕ) : Type 0 where
+  pub goes : (ls : List Line) → bind (asTurn r) (λ d. more d (walk text (envOf t terms′ elements′ seen′) ls)) ≡ walk text (envOf t terms elements seen) (lineAt t p ∷ ls)
   pub lasts : Lasting r t p
 
 -- where a turn states a difference, there is room for it behind n others

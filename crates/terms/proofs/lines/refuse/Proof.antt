@@ -7,11 +7,14 @@ use Rattle.terms.proofs.lines.refuse.Tie as tie
 word-at-requires : tie.Need-word-at-requires
 word-at-requires c κs = search needs
 
-cast-t5 : tie.Need-cast-t5
-cast-t5 c = search needs
+cast-field-place : tie.Need-cast-field-place
+cast-field-place c = search needs
+
+field-place-requires : tie.Need-field-place-requires
+field-place-requires c κs = search needs
 
 returns : tie.Need-returns
-returns c = rw (c .word-at .ensures .0, add-zero)
+returns c = rw (c .field-place .ensures, c .before .word-at .ensures .0, add-zero)
 
 pub refuse-spec : {M : Type 1} → statement M
-refuse-spec = tie.close (tie.spec word-at-requires cast-t5 returns)
+refuse-spec = tie.close (tie.spec word-at-requires cast-field-place field-place-requires returns)

@@ -15,19 +15,19 @@ enum-told : tie.Need-enum-told
 enum-told c = search needs
 
 take-term-requires : tie.Need-take-term-requires
-take-term-requires c κs = (c .before .before .before .before .before .before .before .before .before .pre .0, (role-is _ _ _ _ _ (c .before .before .before .before .word-at .ensures .0) (c .before .before .before .role-of .ensures) (c .before .enum-told .given .1)), c .before .before .before .before .before .before .before .before .before .pre .1 .for-terms, c .before .before .before .before .before .before .before .before .before .pre .2)
+take-term-requires c κs = (c .before .before .before .before .before .before .before .before .before .before .pre .0, (role-is _ _ _ _ _ (c .before .before .before .before .word-at .ensures .0) (c .before .before .before .role-of .ensures) (c .before .enum-told .given .1)), c .before .before .before .before .before .before .before .before .before .before .pre .1 .for-terms, c .before .before .before .before .before .before .before .before .before .before .pre .2)
 
 enum-told-2 : tie.Need-enum-told-2
 enum-told-2 c = search needs
 
 take-element-requires : tie.Need-take-element-requires
-take-element-requires c κs = (c .before .before .before .before .before .before .before .before .before .before .pre .0, (role-is _ _ _ _ _ (c .before .before .before .before .before .word-at .ensures .0) (c .before .before .before .before .role-of .ensures) (c .before .before .enum-told2 .given .1)), c .before .before .before .before .before .before .before .before .before .before .pre .1 .for-elements, c .before .before .before .before .before .before .before .before .before .before .pre .2)
+take-element-requires c κs = (c .before .before .before .before .before .before .before .before .before .before .before .pre .0, (role-is _ _ _ _ _ (c .before .before .before .before .before .word-at .ensures .0) (c .before .before .before .before .role-of .ensures) (c .before .before .enum-told2 .given .1)), c .before .before .before .before .before .before .before .before .before .before .before .pre .1 .for-elements, c .before .before .before .before .before .before .before .before .before .before .before .pre .2)
 
 enum-told-3 : tie.Need-enum-told-3
 enum-told-3 c = search needs
 
 take-atom-requires : tie.Need-take-atom-requires
-take-atom-requires c κs = (c .before .before .before .before .before .before .before .before .before .before .before .pre .0, (role-is _ _ _ _ _ (c .before .before .before .before .before .before .word-at .ensures .0) (c .before .before .before .before .before .role-of .ensures) (c .before .before .before .enum-told3 .given .1)), c .before .before .before .before .before .before .before .before .before .before .before .pre .1 .for-seen)
+take-atom-requires c κs = (c .before .before .before .before .before .before .before .before .before .before .before .before .pre .0, (role-is _ _ _ _ _ (c .before .before .before .before .before .before .word-at .ensures .0) (c .before .before .before .before .before .role-of .ensures) (c .before .before .before .enum-told3 .given .1)), c .before .before .before .before .before .before .before .before .before .before .before .before .pre .1 .for-seen)
 
 enum-told-4 : tie.Need-enum-told-4
 enum-told-4 c = search needs
@@ -60,7 +60,7 @@ returns-3 : tie.Need-returns-3
 returns-3 c = c .before .before .take-atom .ensures
 
 returns-4 : tie.Need-returns-4
-returns-4 c = other-turned _ _ _ _ _ (role-is _ _ _ _ _ (c .before .before .before .word-at .ensures .0) (c .before .before .role-of .ensures) (c .enum-told4 .given .1))
+returns-4 c = other-turned _ _ _ _ _ _ (role-is _ _ _ _ _ (c .before .before .before .word-at .ensures .0) (c .before .before .role-of .ensures) (c .enum-told4 .given .1))
 
 pub take-line-spec : {M : Type 1} → statement M
 take-line-spec =

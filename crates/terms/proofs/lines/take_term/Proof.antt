@@ -1,17 +1,21 @@
--- `take_term`: a faulty line is refused; entering another adds what it says.
-use mathlib.Core.Path.{sym, _∙_}
+-- `take_term`: a number defined twice and an unknown use are refused; else the term is entered.
+use mathlib.Core.Path.{sym, ap, _∙_}
 use native.Mathlib.Omega.{arith}
+use Rattle.terms.specs.inner.Values.{asUse}
 use Rattle.terms.proofs.ByKind.{term-room}
-use Rattle.terms.proofs.Turns.{turn-refused, term-turned}
+use Rattle.terms.proofs.Turns.{turn-refused, defined-twice, defined-unknown, term-before, term-turned}
 use borrow.Author.Needs.{needs}
 use Rattle.terms.proofs.lines.take_term.Statement.{statement}
 use Rattle.terms.proofs.lines.take_term.Tie as tie
 
 add-q : tie.Need-add-q
-add-q c = omega (arith, c .before .before .pre .0 .stand .inside)
+add-q c = omega (arith, c .before .before .before .pre .0 .stand .inside)
 
-bad-term-requires : tie.Need-bad-term-requires
-bad-term-requires c κs = (omega (arith, c .before .before .before .pre .0 .stand .inside), c .before .before .before .pre .1)
+term-at-requires : tie.Need-term-at-requires
+term-at-requires c κs = search needs
+
+term-entry-requires : tie.Need-term-entry-requires
+term-entry-requires c κs = search needs
 
 refuse-requires : tie.Need-refuse-requires
 refuse-requires c κs = search needs
@@ -20,38 +24,59 @@ same-length : tie.Need-same-length
 same-length c = search needs
 
 returns : tie.Need-returns
-returns c = λ els seen. turn-refused _ _ els seen _ _ (c .refuse .ensures) (sym (c .before .if1 .taken) ∙ c .before .before .bad-term .ensures els seen)
+returns c = λ els seen. turn-refused _ _ els seen _ _ _ _ _ (c .refuse .ensures) (defined-twice _ _ els seen _ _ (term-before _ _ els seen _ (c .before .before .before .before .before .before .before .before .pre .1) _ _ (c .before .before .before .before .term-at .ensures) (c .before .before .term-entry .ensures)) (c .before .if1 .taken))
 
-term-at-requires : tie.Need-term-at-requires
-term-at-requires c κs = search needs
+term-use-requires : tie.Need-term-use-requires
+term-use-requires c κs = (omega (arith, c .before .before .before .before .before .before .before .before .pre .0 .stand .inside), c .before .before .before .before .before .before .before .before .pre .1)
 
-add-mark : tie.Need-add-mark
-add-mark c = omega (arith, c .before .before .before .before .before .before .pre .0 .stand .inside)
+enum-known-unknown : tie.Need-enum-known-unknown
+enum-known-unknown c = search needs
 
-cast-mark : tie.Need-cast-mark
-cast-mark c = record { fits = omega (arith, c .before .before .before .before .before .before .pre .0 .stand .inside, c .before .before .before .before .before .before .pre .3) }
-
-put-term-requires : tie.Need-put-term-requires
-put-term-requires c κs = omega (arith, c .before .term-at .ensures, c .before .before .before .before .before .before .before .pre .2, term-room (c .before .before .before .before .before .before .before .pre .0) (c .before .before .before .before .before .before .before .pre .1))
+refuse-requires-2 : tie.Need-refuse-requires-2
+refuse-requires-2 c κs = search needs
 
 same-length-2 : tie.Need-same-length-2
 same-length-2 c = search needs
 
 returns-2 : tie.Need-returns-2
-returns-2 c = λ els seen. term-turned _ _ els seen _ (c .before .before .before .before .before .before .before .before .before .before .pre .1) _ _ (sym (c .before .before .before .before .before .if1 .left) ∙ c .before .before .before .before .before .before .bad-term .ensures els seen) (c .before .before .before .before .term-at .ensures) (omega (arith, c .before .before .before .before .term-at .ensures, c .before .before .before .before .before .before .before .before .before .before .pre .2, term-room (c .before .before .before .before .before .before .before .before .before .before .pre .0) (c .before .before .before .before .before .before .before .before .before .before .pre .1))) (c .before .before .put-term .ensures)
+returns-2 c = λ els seen. turn-refused _ _ els seen _ _ _ _ _ (c .refuse2 .ensures) (defined-unknown _ _ els seen _ _ (term-before _ _ els seen _ (c .before .before .before .before .before .before .before .before .before .before .before .before .before .pre .1) _ _ (c .before .before .before .before .before .before .before .before .before .term-at .ensures) (c .before .before .before .before .before .before .before .term-entry .ensures)) (c .before .before .before .before .before .before .if1 .left) _ _ (ap asUse (c .before .before .unknown .given .1)) (c .before .before .before .before .term-use .ensures els seen))
+
+enum-told : tie.Need-enum-told
+enum-told c = search needs
+
+add-mark : tie.Need-add-mark
+add-mark c = omega (arith, c .before .before .before .before .before .before .before .before .before .before .before .pre .0 .stand .inside)
+
+cast-mark : tie.Need-cast-mark
+cast-mark c = record { fits = omega (arith, c .before .before .before .before .before .before .before .before .before .before .before .pre .0 .stand .inside, c .before .before .before .before .before .before .before .before .before .before .before .pre .3) }
+
+put-term-requires : tie.Need-put-term-requires
+put-term-requires c κs = omega (arith, c .before .before .before .before .before .before .before .before .term-at .ensures, c .before .before .before .before .before .before .before .before .before .before .before .before .pre .2, term-room (c .before .before .before .before .before .before .before .before .before .before .before .before .pre .0) (c .before .before .before .before .before .before .before .before .before .before .before .before .pre .1))
+
+same-length-3 : tie.Need-same-length-3
+same-length-3 c = search needs
+
+returns-3 : tie.Need-returns-3
+returns-3 c = λ els seen. term-turned _ _ els seen _ (c .before .before .before .before .before .before .before .before .before .before .before .before .before .before .before .pre .1) _ _ (c .before .before .before .before .before .before .before .before .before .before .before .term-at .ensures) (c .before .before .before .before .before .before .before .before .before .term-entry .ensures) _ _ (c .before .before .before .before .before .before .before .before .if1 .left) (sym (ap asUse (c .before .before .before .before .enum-told .given .1)) ∙ c .before .before .before .before .before .before .term-use .ensures els seen) (omega (arith, c .before .before .before .before .before .before .before .before .before .before .before .term-at .ensures, c .before .before .before .before .before .before .before .before .before .before .before .before .before .before .before .pre .2, term-room (c .before .before .before .before .before .before .before .before .before .before .before .before .before .before .before .pre .0) (c .before .before .before .before .before .before .before .before .before .before .before .before .before .before .before .pre .1))) (c .before .before .put-term .ensures)
 
 pub take-term-spec : {M : Type 1} → statement M
 take-term-spec =
     tie.close
     (tie.spec
     add-q
-    bad-term-requires
+    term-at-requires
+    term-entry-requires
     refuse-requires
     same-length
     returns
-    term-at-requires
+    term-use-requires
+    enum-known-unknown
+    refuse-requires-2
+    same-length-2
+    returns-2
+    enum-told
     add-mark
     cast-mark
     put-term-requires
-    same-length-2
-    returns-2)
+    same-length-3
+    returns-3)
