@@ -30,8 +30,25 @@ extern "C" {
 
 /* Judges a candidate against a plan text.
  * Accepted: 0 above, the timetable's length in bytes below; the timetable stands in the first bytes of room.
- * Refused: the refusal's number (1 to 11) above, its place below; after 10 the place is the count of atoms, and the
- * list of the cycle's atoms stands in the first places of cycle. Nothing else in either room is changed.
+ * Refused: the refusal's number above, its place below; after 10 the list of the cycle's atoms stands in the first
+ * places of cycle. Nothing else in either room is changed.
+ *
+ * The refusals in their order, and their places; bytes are counted from 0:
+ *   1   a room is too short                           the size needed
+ *   2   the text is too long                          60,000, the most bytes it may have
+ *   3   it breaks the grammar                         the byte of text, or its length
+ *   4   it has something that is not carried          the byte of text
+ *   5   a number in it is beyond its bounds           its first byte
+ *   61  a term or element number is defined twice     the first byte of the line that has it again
+ *   62  one is used that no earlier line defines      the first byte of the field that uses it, the leftmost
+ *   63  an atom has a second theory statement         the line's first byte
+ *   64  a theory atom is no difference                the line's first byte
+ *   7   the candidate is malformed                    the byte of cand, or its length
+ *   8   a rule is broken: the first in the text       the line's first byte
+ *   9   an atom is unfounded                          the smallest such atom
+ *   10  there is a negative cycle                     the count of its atoms
+ *   11  a time is too large; it is never given        the term number
+ * 3 to 5 come by reading order; 61 to 64 at the first line that has one of them, in this order within it.
  *
  * A timetable is numbers of 32 bits, each as four bytes, the lowest first. At which byte stands what:
  *   0        n, the count of names
@@ -60,8 +77,8 @@ uint64_t plan_time(const uint8_t *table, size_t table_length, uint32_t term);
 
 /* The faulty part for a refusal: its start above, its length in bytes below; 0 if there is nothing to show. A part that
  * is longer than 2^32 - 1 gives 2^32 - 1.
- * For the numbers 3, 4, 5, 6 and 8 it is a part of text, for 7 a part of cand; for every other number, and for a place
- * beyond the end, there is nothing. */
+ * For the numbers 3, 4, 5, 61, 62, 63, 64 and 8 it is a part of text, for 7 a part of cand; for every other number, 6
+ * too, and for a place beyond the end, there is nothing. */
 uint64_t plan_shown(const uint8_t *text, size_t text_length,
                     const uint8_t *cand, size_t cand_length,
                     uint32_t number, uint32_t place);

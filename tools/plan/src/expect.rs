@@ -13,7 +13,7 @@ const LENGTH: &str = "the length of a string: 0 to 4,096";
 
 /// What was expected at a place of the text.
 pub fn expected(plan: &Plan, place: usize) -> String {
-    let index = plan.lines.iter().position(|l| place <= l.end).unwrap_or(plan.lines.len());
+    let index = plan.line_of(place);
     if index == 0 {
         return first(place);
     }
@@ -29,7 +29,7 @@ pub fn expected(plan: &Plan, place: usize) -> String {
 
 /// What a construct that is not carried is called in an encoding.
 pub fn construct(plan: &Plan, place: usize) -> String {
-    let index = plan.lines.iter().position(|l| place <= l.end).unwrap_or(0);
+    let index = plan.line_of(place);
     let line = plan.line_bytes(index);
     let start = plan.lines.get(index).map_or(0, |l| l.start);
     let kind = line.split(|&b| b == b' ').next().unwrap_or_default();

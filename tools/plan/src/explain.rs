@@ -91,7 +91,7 @@ fn edge(plan: &Plan, atom: u32, d: &Difference) -> Edge {
 fn refused(plan: &Plan, cand: &[u8], set: &Set, (number, place, cycle): (u32, u32, &[u32])) -> Report {
     let at = place as usize;
     let line = match number {
-        3..=6 | 8 => Some(line_at(&plan.bytes, at)),
+        3..=5 | 61..=64 | 8 => Some(line_at(&plan.bytes, at)),
         7 => Some(line_at(cand, at)),
         _ => None,
     };
@@ -107,7 +107,7 @@ fn refused(plan: &Plan, cand: &[u8], set: &Set, (number, place, cycle): (u32, u3
         3 => vec![format!("expected {}; found {}", expected(plan, at), found(&plan.bytes, at))],
         4 => vec![format!("not carried: {}", construct(plan, at))],
         5 => vec![format!("beyond its bounds: {} is not {}", found(&plan.bytes, at), expected(plan, at))],
-        6 => unsound(plan, at),
+        61..=64 => unsound(plan, number, at).into_iter().collect(),
         7 => malformed(cand, at),
         8 => broken(plan, set, at),
         9 => unfounded(plan, set, place),
@@ -132,7 +132,7 @@ fn malformed(cand: &[u8], at: usize) -> Vec<String> {
 
 // The rule that is broken, and how.
 fn broken(plan: &Plan, set: &Set, at: usize) -> Vec<String> {
-    let index = plan.lines.iter().position(|l| l.start == at).unwrap_or(plan.lines.len());
+    let index = plan.line_of(at);
     let Some(rule) = plan.rule_at(index) else {
         return Vec::new();
     };

@@ -10,7 +10,7 @@ pub struct Report {
     pub place: u32,
     /// Exactly the program's first line: `accepted 2 3` or `refused 8 22`.
     pub first: String,
-    /// For 3 to 6 and 8 in the text, for 7 in the candidate.
+    /// For 3 to 5, 61 to 64 and 8 in the text, for 7 in the candidate.
     pub line: Option<LineAt>,
     /// Accepted: by time, then by name.
     pub times: Vec<Time>,

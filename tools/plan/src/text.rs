@@ -100,6 +100,11 @@ impl Plan {
         }
     }
 
+    /// The line in which a place stands, its line end included; the count of lines where there is none.
+    pub fn line_of(&self, place: usize) -> usize {
+        self.lines.iter().position(|l| place <= l.end).unwrap_or(self.lines.len())
+    }
+
     /// The bytes of a line, without its line end.
     pub fn line_bytes(&self, line: usize) -> &[u8] {
         self.lines.get(line).map_or(&[], |l| &self.bytes[l.start..l.end])

@@ -1,90 +1,147 @@
-//! Why a line's terms or theory atoms are unsound, for commentary on 6.
+//! What is wrong with a line's terms or theory atoms, for commentary on 61 to 64. The judge says which of them it is and
+//! where; found again here is what stands there.
 
-use crate::names::plain;
 use crate::text::{Plan, Statement};
+use std::cmp::Ordering;
+use std::fmt;
 
-/// What is wrong in the line that begins at a place.
-pub fn unsound(plan: &Plan, at: usize) -> Vec<String> {
-    let Some(index) = plan.lines.iter().position(|l| l.start == at) else {
-        return Vec::new();
-    };
-    let reason = twice(plan, index).or_else(|| undefined(plan, index)).or_else(|| no_difference(plan, index));
-    reason.into_iter().collect()
-}
+/// The fields of a line in which uses begin, counted from 0: t or p, an element's terms, arguments or elements.
+const HEAD: usize = 3;
+const TERMS: usize = 4;
+const LIST: usize = 5;
 
-// The line that defined the same number before.
-fn twice(plan: &Plan, index: usize) -> Option<String> {
-    match plan.statement(index) {
-        Statement::Number { term, .. } | Statement::Word { term, .. } | Statement::Compound { term, .. } => {
-            let first = *plan.terms.get(term).filter(|&&i| i < index)?;
-            let name = plan.term(*term);
-            Some(format!("term {term} is defined twice: line {} has it already, as `{name}`", first + 1))
-        }
-        Statement::Element { element, .. } => {
-            let first = *plan.elements.get(element).filter(|&&i| i < index)?;
-            let name = plan.element(*element);
-            Some(format!("element {element} is defined twice: line {} has it already, as `{name}`", first + 1))
-        }
+/// What is wrong at a place that one of 61 to 64 has.
+pub fn unsound(plan: &Plan, number: u32, at: usize) -> Option<String> {
+    let line = plan.line_of(at);
+    match number {
+        61 => twice(plan, line),
+        62 => undefined(plan, line, at),
+        63 => second(plan, line),
+        64 => no_difference(plan, line),
         _ => None,
     }
 }
 
-// The first term or element that is used and not defined before.
-fn undefined(plan: &Plan, index: usize) -> Option<String> {
-    let (terms, elements) = uses(plan.statement(index));
-    let late = |first: Option<&usize>| first.is_none_or(|&i| i >= index);
-    if let Some(term) = terms.iter().find(|&t| late(plan.terms.get(t))) {
-        let name = plan.terms.get(term).map(|&i| (i, plan.term(*term)));
-        return Some(missing("term", *term, index, name));
-    }
-    let element = elements.iter().find(|&e| late(plan.elements.get(e)))?;
-    let name = plan.elements.get(element).map(|&i| (i, plan.element(*element)));
-    Some(missing("element", *element, index, name))
+// A number of one of the two countings that lines define.
+#[derive(Clone, Copy)]
+enum Number {
+    Term(u32),
+    Element(u32),
 }
 
-// What is said of a term or element that is used too early: its number, and where it is defined as what.
-fn missing(kind: &str, number: u32, index: usize, defined: Option<(usize, String)>) -> String {
-    match defined {
-        None => format!("{kind} {number} is used here and defined nowhere"),
-        Some((line, _)) if line == index => format!("{kind} {number} is used in the line that defines it"),
-        Some((line, name)) => {
-            format!("{kind} {number} (`{name}`) is used before its definition, which is line {}", line + 1)
+impl fmt::Display for Number {
+    fn fmt(&self, f: &mut fmt::Formatter) -> fmt::Result {
+        match self {
+            Number::Term(term) => write!(f, "term {term}"),
+            Number::Element(element) => write!(f, "element {element}"),
         }
     }
 }
 
-// The terms and the elements that a statement uses.
-fn uses(statement: &Statement) -> (Vec<u32>, Vec<u32>) {
+impl Number {
+    // The line that defines it first, and what it is there.
+    fn defined(self, plan: &Plan) -> Option<(usize, String)> {
+        match self {
+            Number::Term(term) => plan.terms.get(&term).map(|&line| (line, plan.term(term))),
+            Number::Element(element) => {
+                plan.elements.get(&element).map(|&line| (line, format!("{{{}}}", plan.element(element))))
+            }
+        }
+    }
+}
+
+// A use of a number: its field in the line, and what it is used as.
+struct Use {
+    field: usize,
+    number: Number,
+    role: String,
+}
+
+// The line that has the number of this line already.
+fn twice(plan: &Plan, line: usize) -> Option<String> {
+    let number = match plan.statement(line) {
+        Statement::Number { term, .. } | Statement::Word { term, .. } | Statement::Compound { term, .. } => {
+            Number::Term(*term)
+        }
+        Statement::Element { element, .. } => Number::Element(*element),
+        _ => return None,
+    };
+    let (first, name) = number.defined(plan).filter(|(first, _)| *first < line)?;
+    Some(format!("{number} is defined twice: line {} has it already, as `{name}`", first + 1))
+}
+
+// The number that stands at a place, what it is used as, and where it is defined too late, if it is.
+fn undefined(plan: &Plan, line: usize, at: usize) -> Option<String> {
+    let before = plan.bytes.get(plan.lines.get(line)?.start..at)?;
+    let field = before.iter().filter(|&&b| b == b' ').count();
+    let Use { number, role, .. } = uses(plan, plan.statement(line)).into_iter().find(|u| u.field == field)?;
+    let used = format!("{number} is used here, as {role}");
+    let Some((first, name)) = number.defined(plan) else {
+        return Some(format!("{used}, and no line defines it"));
+    };
+    match first.cmp(&line) {
+        Ordering::Less => None,
+        Ordering::Equal => Some(format!("{used}, in the line that defines it")),
+        Ordering::Greater => Some(format!("{used}, before its definition: line {} has it, as `{name}`", first + 1)),
+    }
+}
+
+// The uses of a statement, from the left.
+fn uses(plan: &Plan, statement: &Statement) -> Vec<Use> {
     match statement {
-        Statement::Compound { functor, arguments, .. } => {
-            (u32::try_from(*functor).into_iter().chain(arguments.iter().copied()).collect(), Vec::new())
+        Statement::Compound { term, functor, arguments } => {
+            let function: Vec<u32> = u32::try_from(*functor).into_iter().collect();
+            let mut uses = row(HEAD, Number::Term, &function, &format!("the function of term {term}"));
+            uses.extend(row(LIST, Number::Term, arguments, &format!("an argument of term {term}")));
+            uses
         }
-        Statement::Element { terms, .. } => (terms.clone(), Vec::new()),
-        Statement::Theory { name, elements, guard, .. } => {
-            let guard = guard.iter().flat_map(|(operator, bound)| [*operator, *bound]);
-            (std::iter::once(*name).chain(guard).collect(), elements.clone())
+        Statement::Element { element, terms, .. } => {
+            row(TERMS, Number::Term, terms, &format!("a term of element {element}"))
         }
-        _ => (Vec::new(), Vec::new()),
+        Statement::Theory { atom, name, elements, guard } => {
+            let of = |role: &str| format!("{role} of {}", named(plan, *atom));
+            let behind = LIST + elements.len();
+            let mut uses = row(HEAD, Number::Term, &[*name], &of("the name"));
+            uses.extend(row(LIST, Number::Element, elements, &of("an element")));
+            if let Some((operator, bound)) = guard {
+                uses.extend(row(behind, Number::Term, &[*operator], &of("the operator")));
+                uses.extend(row(behind + 1, Number::Term, &[*bound], &of("the bound")));
+            }
+            uses
+        }
+        _ => Vec::new(),
     }
 }
 
-// Why a theory statement is not the one difference of its atom.
-fn no_difference(plan: &Plan, index: usize) -> Option<String> {
-    let Statement::Theory { atom, .. } = plan.statement(index) else {
+// Uses in one field after the other, from a first one on.
+fn row(first: usize, counting: fn(u32) -> Number, numbers: &[u32], role: &str) -> Vec<Use> {
+    let fields = numbers.iter().zip(first..);
+    fields.map(|(&number, field)| Use { field, number: counting(number), role: String::from(role) }).collect()
+}
+
+// An atom by its number, and by its name where an output gives it one.
+fn named(plan: &Plan, atom: u32) -> String {
+    match plan.outputs.contains_key(&atom) {
+        true => format!("atom {atom} (`{}`)", plan.atom(atom)),
+        false => format!("atom {atom}"),
+    }
+}
+
+// The two theory statements of an atom.
+fn second(plan: &Plan, line: usize) -> Option<String> {
+    let Statement::Theory { atom, .. } = plan.statement(line) else {
         return None;
     };
-    let named = match plan.outputs.get(atom).map(|&i| plan.statement(i)) {
-        Some(Statement::Output { name, .. }) => format!("atom {atom} (`{}`)", plain(name)),
-        _ => format!("atom {atom}"),
+    let first = *plan.theory.get(atom).filter(|&&first| first < line)?;
+    let (named, stated, before) = (named(plan, *atom), plan.theory_atom(line), plan.theory_atom(first));
+    Some(format!("{named} has a second theory statement, `{stated}`: line {} states `{before}`", first + 1))
+}
+
+// Why a theory statement is no difference.
+fn no_difference(plan: &Plan, line: usize) -> Option<String> {
+    let Statement::Theory { atom, .. } = plan.statement(line) else {
+        return None;
     };
-    let stated = plan.theory_atom(index);
-    if let Some(first) = plan.theory.get(atom).filter(|&&i| i < index) {
-        let before = plan.theory_atom(*first);
-        return Some(format!(
-            "{named} has a second theory statement, `{stated}`: line {} states `{before}`",
-            first + 1
-        ));
-    }
-    let reason = plan.difference_at(index).err()?;
-    Some(format!("{named}, `{stated}`, is no difference: {reason}"))
+    let reason = plan.difference_at(line).err()?;
+    Some(format!("{}, `{}`, is no difference: {reason}", named(plan, *atom), plan.theory_atom(line)))
 }

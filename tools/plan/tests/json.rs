@@ -211,6 +211,8 @@ fn refusals() {
     let line = Some(LineAt { number: 3, text: "1 0 1 2 0 1 1".to_string(), column: 1 });
     let warnings = vec!["open(2-1)".to_string()];
     check(&Report { number: 8, place: 22, line, warnings, comment: vec![String::new()], ..Report::default() });
+    let field = Some(LineAt { number: 12, text: "9 4 0 1 70 0".to_string(), column: 9 });
+    check(&Report { number: 62, place: 139, line: field, ..Report::default() });
     let cycle = vec![difference("recv", "send", 40), difference("send", "recv", -45)];
     check(&Report { number: 10, place: 2, cycle, sum: -5, ..Report::default() });
 }

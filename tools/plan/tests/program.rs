@@ -136,6 +136,9 @@ fn numbered_to_standard_output() {
     let (status, out, err) = said(&run(&folder, &["numbered", "-"], "asp 1 0 0\n2 0 0\n0\n"));
     assert_eq!((status, out.as_str()), (0, "asp 1 0 0\n2 0 0\n0\n"));
     assert!(err.contains("refused 4 10"), "{err}");
+    let (status, out, err) = said(&run(&folder, &["numbered", "-"], "asp 1 0 0\n9 2 7 1 0\n0\n"));
+    assert_eq!((status, out.as_str()), (0, "asp 1 0 0\n9 2 7 1 0\n0\n"));
+    assert!(err.contains("refused 62 16"), "{err}");
     let _ = std::fs::remove_dir_all(folder);
 }
 

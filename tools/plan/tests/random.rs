@@ -10,6 +10,7 @@ use plan::numbered::numbered;
 use plan::report::Report;
 use plan::svg::picture;
 use plan::text::Plan;
+use std::collections::BTreeSet;
 
 const NET: &str = include_str!("data/net.aspif");
 
@@ -55,6 +56,7 @@ fn tried(text: &[u8], cand: &[u8]) -> Report {
     let number_of = number(text, cand);
     assert_eq!((report.number, report.accepted), (number_of, number_of == 0));
     assert_eq!(number(&numbered(&plan), cand), number_of, "{}", String::from_utf8_lossy(text));
+    assert!(!(61..=64).contains(&number_of) || report.comment.len() == 3, "{:?}", report.comment);
     let _ = (object(&report), picture(&report));
     for line in 0..plan.lines.len() {
         let _ = (plan.rule(line), plan.theory_atom(line), plan.difference_at(line));
@@ -105,7 +107,7 @@ fn random_bytes_as_answers() {
 #[test]
 fn damaged_plans_and_candidates() {
     let mut random = Random(0xdead_beef_cafe_f00d);
-    let mut seen = [0usize; 12];
+    let mut seen = BTreeSet::new();
     for _ in 0..4_000 {
         let (text, cand) = if random.below(2) == 0 { (P, "1 2 3\n") } else { (NET, "1 2 3 4 7 8\n") };
         let (mut text, mut cand) = (text.as_bytes().to_vec(), cand.as_bytes().to_vec());
@@ -113,9 +115,9 @@ fn damaged_plans_and_candidates() {
             0 => cand = damaged(&mut random, &cand),
             _ => text = damaged(&mut random, &text),
         }
-        seen[tried(&text, &cand).number as usize] += 1;
+        seen.insert(tried(&text, &cand).number);
     }
-    assert!([0, 3, 4, 5, 6, 7, 8, 9].iter().all(|&n| seen[n] > 0), "{seen:?}");
+    assert!([0, 3, 4, 5, 61, 62, 64, 7, 8, 9].iter().all(|n| seen.contains(n)), "{seen:?}");
 }
 
 #[test]

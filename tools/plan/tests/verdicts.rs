@@ -141,28 +141,6 @@ fn five_says_the_bounds() {
 }
 
 #[test]
-fn six_says_the_term_or_atom_and_the_reason() {
-    let six = |old: &str, new: &str, place: u32, part: &str| {
-        told(&p_with(old, new), "1 2 3\n", &format!("refused 6 {place}"), &[part]);
-    };
-    six("9 0 8 5", "9 0 5 40", 159, "term 5 is defined twice: line 10 has it already, as `40`");
-    six("9 4 1 1 7 0", "9 4 0 1 7 0", 193, "element 0 is defined twice: line 12 has it already, as `recv-send`");
-    six("9 2 9 1 1 8", "9 2 9 1 1 9", 167, "term 9 is used in the line that defines it");
-    six("9 4 0 1 6 0", "9 4 0 1 7 0", 131, "term 7 (`send-recv`) is used before its definition, which is line 16");
-    six("9 4 0 1 6 0", "9 4 0 1 70 0", 131, "term 70 is used here and defined nowhere");
-    six("9 6 3 0 1 1 2 9", "9 6 3 0 1 7 2 9", 205, "element 7 is used here and defined nowhere");
-    six("9 6 3 0 1 1 2 9", "9 6 2 0 1 1 2 9", 205, "atom 2 has a second theory statement, `&diff{send-recv}<=-5`");
-    six("9 6 3 0 1 1 2 9", "9 5 3 0 1 1", 205, "it has no operator and no bound");
-    six("9 4 0 1 6 0", "9 4 0 1 6 1 1", 145, "its element has a condition");
-    six("9 4 0 1 6 0", "9 4 0 2 6 5 0", 145, "its element has 2 terms, not one");
-    six("9 4 0 1 6 0", "9 4 0 1 5 0", 143, "its element is `40`, not of the form x - y");
-    six("9 1 2 2 <=", "9 1 2 2 >=", 143, "its operator is `>=`, not `<=`");
-    six("9 1 0 4 diff", "9 1 0 3 sum", 142, "atom 2, `&sum{recv-send}<=40`, is no difference: its name is `sum`");
-    six("9 6 2 0 1 0 2 5", "9 6 2 0 1 0 2 3", 143, "its bound is `send`, not a number");
-    six("9 6 2 0 1 0 2 5", "9 6 2 0 0 2 5", 143, "it has 0 elements, not one");
-}
-
-#[test]
 fn seven_has_the_caret_in_the_candidate() {
     told(P, "", "refused 7 0", &["line 1: \n        ^", "expected an atom", "found the end"]);
     told(P, "1 2 3", "refused 7 5", &["line 1: 1 2 3\n             ^", "or the line end; found the end"]);
