@@ -1,12 +1,13 @@
--- Laws of lists: what holds of all members, runs of stores, and lists of zeros. Assumes nothing.
+-- Laws of lists: what holds of all members or of some, runs of stores, and lists of zeros. Assumes nothing.
 use Prim.Native.Nat.{ℕ, zero, suc, _+_, _<_}
 use mathlib.Core.Path.{_≡_, refl}
 use mathlib.Core.List.{List, [], _∷_, _++_, map}
+use mathlib.Core.Logic.{inl, inr, ⊎-elim}
 use native.Mathlib.Omega.{arith}
 use native.Mathlib.Nat.{add-zero}
 use lib.ListN.{length, getD, set, replicate}
 use lib.Seq.{set-comm, sets}
-use Rattle.basics.specs.Lists.{All}
+use Rattle.basics.specs.Lists.{All, Some}
 
 -- what follows of each member
 pub all-so : {A : Type 0} {P Q : A → Type 0} → ((a : A) → P a → Q a) → (l : List A) → All P l → All Q l
@@ -22,6 +23,17 @@ all-map f Q h (a ∷ l) p = (h a (p .0), all-map f Q h l (p .1))
 pub all-any : {A : Type 0} (l : List A) → All (λ (a : A). Unit {0}) l
 all-any [] = tt
 all-any (a ∷ l) = (tt, all-any l)
+
+module _ {A : Type 0} (P : A → Type 0) where
+  -- a member of the first part is one of the whole
+  pub some-left : (l r : List A) → Some P l → Some P (l ++ r)
+  some-left [] r h = absurd h
+  some-left (a ∷ l) r h = ⊎-elim (λ p. inl p) (λ p. inr (some-left l r p)) h
+
+  -- and so is one of the second
+  pub some-right : (l r : List A) → Some P r → Some P (l ++ r)
+  some-right [] r h = h
+  some-right (a ∷ l) r h = inr (some-right l r h)
 
 -- a map that is undone on each member is undone on the list
 pub map-back : {A B : Type 0} {P : A → Type 0} (f : A → B) (g : B → A) → ((a : A) → P a → g (f a) ≡ a) → (l : List A) → All P l → map g (map f l) ≡ l

@@ -34,17 +34,17 @@ module _ {A : Type 0} {P : A → ℕ → Type 0} where
   gives-either false f g h k = k
 
   -- a value that is kept unless a test holds
-  pub gives-unless : (t : Bool) (k p : ℕ) (v : A) (n : ℕ) → (t ≡ false → P v n) → Gives P (pick t (fault k p) (found v n))
+  gives-unless : (t : Bool) (k p : ℕ) (v : A) (n : ℕ) → (t ≡ false → P v n) → Gives P (pick t (fault k p) (found v n))
   gives-unless true k p v n h = stops
   gives-unless false k p v n h = gives (h refl)
 
   -- a fault's place changes nothing
-  pub gives-placed : (p : ℕ) {a : Reading A} → Gives P a → Gives P (placed p a)
+  gives-placed : (p : ℕ) {a : Reading A} → Gives P a → Gives P (placed p a)
   gives-placed p (gives h) = gives h
   gives-placed p stops = stops
 
 -- what follows from what is found
-pub gives-so : {A : Type 0} {P Q : A → ℕ → Type 0} {a : Reading A} → ((v : A) (n : ℕ) → P v n → Q v n) → Gives P a → Gives Q a
+gives-so : {A : Type 0} {P Q : A → ℕ → Type 0} {a : Reading A} → ((v : A) (n : ℕ) → P v n → Q v n) → Gives P a → Gives Q a
 gives-so f (gives {v} {n} h) = gives (f v n h)
 gives-so f stops = stops
 

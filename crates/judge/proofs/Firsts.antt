@@ -10,6 +10,7 @@ use lib.ListN.{length, length-append}
 use Rattle.basics.specs.Bools.{pick}
 use Rattle.basics.specs.inner.Bitmaps.{isMarked}
 use Rattle.basics.specs.Lists.{All, Some}
+use Rattle.basics.proofs.Lists.{some-left, some-right}
 use Rattle.diffs.specs.Diff.{Diff}
 use Rattle.diffs.proofs.Choosing.{by-dec}
 use Rattle.diffs.proofs.Names.{all-left, all-right}
@@ -37,16 +38,6 @@ module _ {A : Type 0} (P : A → Type 0) where
 
   -- ---- some place
 
-  -- a member of the first part is one of the whole
-  some-left : (l r : List A) → Some P l → Some P (l ++ r)
-  some-left [] r h = absurd h
-  some-left (a ∷ l) r h = ⊎-elim (λ p. inl p) (λ p. inr (some-left l r p)) h
-
-  -- and so is one of the second
-  some-right : (l r : List A) → Some P r → Some P (l ++ r)
-  some-right [] r h = h
-  some-right (a ∷ l) r h = inr (some-right l r h)
-
   -- a member of the whole is one of a part
   some-split : (l r : List A) → Some P (l ++ r) → Some P l ⊎ Some P r
   some-split [] r h = inr h
@@ -73,8 +64,8 @@ module _ {A : Type 0} (P : A → Type 0) where
   place-some zero f i l h = absurd (omega arith)
   place-some (suc n) f i l h =
       by-dec (decLt i n)
-      (λ g. some-left (tabulated n f) (f n ∷ []) (place-some n f i g h))
-      (λ g. some-right (tabulated n f) (f n ∷ []) (inl (subst (λ (j : ℕ). P (f j)) (omega arith) h)))
+      (λ g. some-left P (tabulated n f) (f n ∷ []) (place-some n f i g h))
+      (λ g. some-right P (tabulated n f) (f n ∷ []) (inl (subst (λ (j : ℕ). P (f j)) (omega arith) h)))
 
 -- ---- those in force
 

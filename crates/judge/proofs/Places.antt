@@ -47,7 +47,7 @@ place-of e = (cc)
 abbrev Placed : (n : ℕ) → List Line → Type 0
 Placed n ls = All (λ (l : Line). l .place < n) ls
 
--- what is wrong with a line stands at one of its fields
+-- what is wrong with a line stands within the text or at its end
 differences-place : (text : List ℕ) (before ls : List Line) (k p : ℕ) → Placed (length text) ls → differencesFrom text before ls ≡ refused k p → p ≤ length text
 unfolding differencesFrom
 differences-place text before [] k p h e = absurd (never e)
@@ -71,7 +71,7 @@ broken-place n X (l ∷ ls) p h e = go (broken X (ruleIn (l .says))) (broken-pla
     go true r e = let z : l .place ≡ p = (cc) in omega (arith, h .0)
     go false r e = r e
 
--- ---- 1 to 7
+-- ---- 1 to 5, 61 to 64 and 7
 
 -- 1
 lent-place : (b : Rooms) (k p : ℕ) → lent b ≡ refused k p → p ≤ longestText
@@ -98,7 +98,7 @@ legible-place text k p = go (ltb longestText (length text)) (statements text) re
     go false (got ls) t s e = omega (arith, ltb-false longestText (length text) t, go₂ ls (statements-placed text ls s) (differencesFrom text [] ls) refl e)
     go false (refused i q) t s e = omega (arith, ltb-false longestText (length text) t, statements-refused text i q s .1, place-of e)
 
--- 1 to 7
+-- all of these
 readable-place : (a : Asked) (b : Rooms) (k p : ℕ) → readable a b ≡ refused k p → p ≤ longestText
 unfolding readable pair
 readable-place a b k p = go (lent b) (legible (a .text)) (candidate (a .cand)) refl refl refl

@@ -1,4 +1,4 @@
--- What a readable plan is: none of 1 to 7 is given, and each part was read. Assumes nothing.
+-- What a readable plan is: none of 1 to 5, 61 to 64 and 7 is given, and each part was read. Assumes nothing.
 use Prim.Native.Nat.{ℕ, _≤_}
 use mathlib.Core.Path.{_≡_, refl}
 use mathlib.Core.Bool.{Bool, true, false}

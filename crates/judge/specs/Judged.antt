@@ -96,7 +96,7 @@ pub data Weighed (q : Ready) (b : Rooms) (r : Result) : Type 0 where
   breaks : (p : ℕ) → firstBroken (holds q) (q .lines) ≡ brokenAt p → r ≡ refusing b 8 p → Weighed q b r
   sound : firstBroken (holds q) (q .lines) ≡ unbroken → Supported q b r → Weighed q b r
 
--- 1 to 7; or a readable plan
+-- 1 to 5, 61 to 64 or 7; or a readable plan
 pub data Judges (a : Answer Ready) (b : Rooms) (r : Result) : Type 0 where
   unreadable : (k p : ℕ) → a ≡ refused k p → r ≡ refusing b k p → Judges a b r
   judgeable : (q : Ready) → a ≡ got q → Weighed q b r → Judges a b r

@@ -1,4 +1,4 @@
--- Believed: a readable plan with its candidate: refusals 1 to 7 in the order of docs/RULES.md, 'Verdicts', and the rules that hold. Assumes nothing.
+-- Believed: a readable plan with its candidate: refusals 1 to 5, 61 to 64 and 7 in the order of docs/RULES.md, 'Verdicts', and the rules that hold. Assumes nothing.
 use Prim.Native.Nat.{ℕ}
 use mathlib.Core.Path.{_≡_}
 use mathlib.Core.Bool.{Bool, true}
@@ -42,7 +42,7 @@ ready ls cs = record { lines = ls; atoms = cs }
 abbrev pub holds : Ready → ℕ → Bool
 holds q a = among a (q .atoms)
 
--- ---- 1 to 7, in three parts
+-- ---- 1 to 5, 61 to 64 and 7, in three parts
 
 -- what was lent, 1: a room too short, the timetable room first
 unfoldable pub lent : Rooms → Answer Unit

@@ -24,7 +24,7 @@ pub record GotSix (a : Asked) (b : Rooms) (p : ℕ) : Type 0 where
   pub read : statements (a .text) ≡ got lines
   pub unsound : firstUnsound lines ≡ some p
 
--- one of the four is given, at p; or 62 at a field of the line at p
+-- one of the four is given, at p; or 62 at a field counted from there
 pub record GetsOne (a : Asked) (b : Rooms) (p : ℕ) (r : Result) : Type 0 where
   pub number : ℕ
   pub field : ℕ

@@ -83,7 +83,7 @@ fn refused(kind: Kind, place: usize) -> Untimed
     Untimed::Refused(Refusal { kind, place })
 }
 
-// 3 to 9, of a text that fits the tape; or its differences in the first places of four slices, and the stable candidate in x.
+// 3 to 5, 61 to 64 and 7 to 9, of a text that fits the tape; or its differences in the first places of four slices, and the stable candidate in x.
 fn before_times(
     text: &[u8],
     cand: &[u8],

@@ -25,7 +25,7 @@ not-true : false ≡ true → ⊥
 not-true e = let z : _≡_ {A = ℕ} 0 1 = (cc) in omega arith
 
 -- the test holds, and what is picked is found
-pub picked : {A : Type 0} (b : Bool) (x : Option A) (a : A) → pick b x none ≡ some a → (b ≡ true) × (x ≡ some a)
+picked : {A : Type 0} (b : Bool) (x : Option A) (a : A) → pick b x none ≡ some a → (b ≡ true) × (x ≡ some a)
 picked true x a h = (refl, h)
 picked false x a h = absurd (never h)
 
@@ -40,7 +40,7 @@ same-is (a ∷ s) (b ∷ l) h = go (same-is s l) (eqb a b) refl h
     go r true q h = rw (eqb-true a b q, r h)
     go r false q h = absurd (not-true h)
 
-pub string-is : (l : List ℕ) (x : Option Term) → isString l x ≡ true → x ≡ some (str l)
+string-is : (l : List ℕ) (x : Option Term) → isString l x ≡ true → x ≡ some (str l)
 unfolding isString
 string-is l none h = absurd (not-true h)
 string-is l (some (num k)) h = absurd (not-true h)
@@ -104,7 +104,7 @@ bound-is ls u (some (comp t (n ∷ []))) k e h =
     underMinus (m .0) n (o .0) (rw (← m .1) e) (m .2) (o .1) (o .2)
 bound-is ls u (some (comp t (n ∷ m ∷ us))) k e h = absurd (never h)
 
-pub joined-is : (p : Option Pair) (q : Option ℤ) (d : Diff) → joined p q ≡ some d → (p ≡ some (record { x = d .x; y = d .y })) × (q ≡ some (d .k))
+joined-is : (p : Option Pair) (q : Option ℤ) (d : Diff) → joined p q ≡ some d → (p ≡ some (record { x = d .x; y = d .y })) × (q ≡ some (d .k))
 joined-is (some p) (some k) d h =
     let e : record { x = p .x; y = p .y; k = k } ≡ d = cc h in
     (ap (λ (s : Diff). some (record { x = s .x; y = s .y })) e, ap (λ (s : Diff). some (s .k)) e)

@@ -17,7 +17,7 @@ use Rattle.fields.specs.Fields.{space, byte, fieldPlace, nextNatural, nextTerm,
 use Rattle.aspif.specs.Statements.{comp, num, str, elem, Theory, defines, collects, states, Statement, Line, theoryIn}
 use Rattle.aspif.specs.Grammar.{integerOf, heads, literals, body, ruleLine, outputLine, numericLine, stringLine, compoundLine, elementLine, front, theoryLine, guardedLine, commentLine, theoryOf, theoryPart, statementOf, lineOf, lastLine, lines, firstLine, plan, answer, statements}
 use Rattle.terms.specs.Reasons.{functorUse}
-use Rattle.terms.specs.Six.{termsBehind}
+use Rattle.terms.specs.Six.{operands}
 use Rattle.fields.proofs.Spaced.{Gives, gives, stops, gives-either, gives-then, gives-after, Follows, Whole, natural-gives, nextNatural-gives, nextAtom-gives, nextInteger-gives, Stand, counted-gives}
 use Rattle.fields.specs.declared.Item.the-variants as of
 
@@ -43,7 +43,7 @@ module _ (s : List ℕ) (p : ℕ) where
   Placed (some (defines u (str bs))) = Unit {0}
   Placed (some (defines u (comp t us))) = Stand s p 3 (functorUse t) × Stand s p 5 us
   Placed (some (collects v (elem us ls))) = Stand s p 4 us
-  Placed (some (states a n vs g)) = Stand s p 3 (n ∷ []) × Stand s p 5 vs × Stand s p (5 + length vs) (termsBehind g)
+  Placed (some (states a n vs g)) = Stand s p 3 (n ∷ []) × Stand s p 5 vs × Stand s p (5 + length vs) (operands g)
   Placed none = Unit {0}
 
   -- a statement that is read there is so placed

@@ -1,12 +1,13 @@
 -- Believed: what is proved of 61 to 64: they are given exactly where document 01 gave 6, and 62 points at a number that no earlier line defines.
 -- Assumes nothing.
-use Prim.Native.Nat.{ℕ}
+use Prim.Native.Nat.{ℕ, _+_}
 use mathlib.Core.Path.{_≡_}
 use mathlib.Core.Logic.{_⊎_, _↔_}
 use mathlib.Core.List.{List, [], _∷_, _++_}
 use mathlib.Core.Bool.{true}
 use mathlib.Core.Option.{Option, some, none}
-use Rattle.basics.specs.Lists.{among}
+use lib.ListN.{length}
+use Rattle.basics.specs.Lists.{Some, among}
 use Rattle.faults.specs.Answer.{got, refused}
 use Rattle.faults.specs.Limits.{lastTerm}
 use Rattle.fields.specs.Reading.{found}
@@ -23,7 +24,7 @@ use Rattle.terms.specs.Reasons.{functorUse, differences}
 abbrev pub reasons : List ℕ
 reasons = 61 ∷ 62 ∷ 63 ∷ 64 ∷ []
 
--- one of the four is given for the line at p: at its first byte, or 62 at one of its fields
+-- one of the four is given for the line at p: at its first byte, or 62 at a field counted from there
 pub record GivenAt (text : List ℕ) (ls : List Line) (p : ℕ) : Type 0 where
   pub number : ℕ
   pub field : ℕ
@@ -38,45 +39,62 @@ pub record InPlaceOfSix (text : List ℕ) (ls : List Line) : Type 0 where
 
 -- ---- 62 points at a number that is not defined
 
--- the term numbers that a statement uses, and the element numbers
-abbrev pub termsIn : Term → List ℕ
+-- a number that a statement uses, and the field in which it stands
+pub record Usage : Type 0 where
+  pub field : ℕ
+  pub number : ℕ
+
+-- numbers in the fields from k on
+abbrev pub usedFrom : (k : ℕ) → List ℕ → List Usage
+usedFrom k [] = []
+usedFrom k (u ∷ us) = record { field = k; number = u } ∷ usedFrom (k + 1) us
+
+-- the terms that a statement uses
+abbrev pub termsIn : Term → List Usage
 termsIn (num k) = []
 termsIn (str s) = []
-termsIn (comp t us) = functorUse t ++ us
+termsIn (comp t us) = usedFrom 3 (functorUse t) ++ usedFrom 5 us
 
-abbrev pub termsOf : Element → List ℕ
-termsOf (elem us ls) = us
+abbrev pub termsOf : Element → List Usage
+termsOf (elem us ls) = usedFrom 4 us
 
-abbrev pub termsBehind : Guard → List ℕ
-termsBehind unguarded = []
-termsBehind (guard g u) = g ∷ u ∷ []
+abbrev pub operands : Guard → List ℕ
+operands unguarded = []
+operands (guard g u) = g ∷ u ∷ []
 
-abbrev pub termsUsed : Option Theory → List ℕ
+abbrev pub termsUsed : Option Theory → List Usage
 termsUsed (some (defines u t)) = termsIn t
 termsUsed (some (collects v e)) = termsOf e
-termsUsed (some (states a p vs g)) = p ∷ termsBehind g
+termsUsed (some (states a p vs g)) = usedFrom 3 (p ∷ []) ++ usedFrom (5 + length vs) (operands g)
 termsUsed none = []
 
-abbrev pub elementsUsed : Option Theory → List ℕ
+-- and the elements
+abbrev pub elementsUsed : Option Theory → List Usage
 elementsUsed (some (defines u t)) = []
 elementsUsed (some (collects v e)) = []
-elementsUsed (some (states a p vs g)) = vs
+elementsUsed (some (states a p vs g)) = usedFrom 5 vs
 elementsUsed none = []
 
--- a line uses the number that is read at q, one of its fields, and no line before it defines that number; terms and elements are both numbered to 1,023
+-- among these, the number is used in the field
+abbrev pub UsedIn : List Usage → (field number : ℕ) → Type 0
+UsedIn xs f n = Some (λ (x : Usage). x ≡ record { field = f; number = n }) xs
+
+-- q is a field of the first unsound line in which a number is used; that number is read at q, and no line before defines it.
+-- Terms and elements are both numbered to 1,023
 pub record UsedAt (text : List ℕ) (ls : List Line) (q : ℕ) : Type 0 where
   pub before : List Line
   pub line : Line
   pub behind : List Line
   pub among-lines : ls ≡ before ++ (line ∷ behind)
+  pub first : firstUnsound ls ≡ some (line .place)
   pub field : ℕ
   pub place : q ≡ fieldPlace text field (line .place)
   pub number : ℕ
   pub after : ℕ
   pub read : natural 5 lastTerm text q ≡ found number after
   pub undefined :
-      ((among number (termsUsed (theoryIn (line .says))) ≡ true) × (term before number ≡ none))
-      ⊎ ((among number (elementsUsed (theoryIn (line .says))) ≡ true) × (elementAt before number ≡ none))
+      (UsedIn (termsUsed (theoryIn (line .says))) field number × (term before number ≡ none))
+      ⊎ (UsedIn (elementsUsed (theoryIn (line .says))) field number × (elementAt before number ≡ none))
 
 -- of every text that reads
 abbrev pub PointsAtUse : Type 0

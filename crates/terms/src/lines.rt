@@ -103,8 +103,8 @@ fn take_term(text: &[u8], tape: &[u32], p: usize, terms: &mut [u32]) -> Turn
 {
     let q = p + SAYS;
     let u = term_at(tape, q, OF);
-    let before = term_entry(terms, u);
-    if before != 0 {
+    let defined = term_entry(terms, u);
+    if defined != 0 {
         return refuse(text, tape, p, Kind::Twice, FIRST_FIELD);
     }
     let unknown = term_use(tape, q, terms);
