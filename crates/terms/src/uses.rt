@@ -73,7 +73,7 @@ fn functor_use(t: u32, terms: &[u32]) -> Use
     Use::None
 }
 
-// The leftmost use of the statement at q, which defines a term: t, then the arguments.
+// The leftmost unknown use of the statement at q, which defines a term: t, then the arguments.
 pub fn term_use(tape: &[u32], q: usize, terms: &[u32]) -> Use
     requires { ⌜ (q ≤ length (now tape)) × (roleOf (word (now tape) q) ≡ role.Term) ⌝ }
     ensures { λ r. ⌜ ((els seen : List ℕ) → asUse r ≡ unknownUse (envOf (now (tape .entry)) (now (terms .entry)) els seen) (theoryIn (saysAt (now (tape .entry)) q))) ⌝ }
@@ -91,7 +91,7 @@ pub fn term_use(tape: &[u32], q: usize, terms: &[u32]) -> Use
     unknown(tape, q, FIRST_ARGUMENT, n, terms)
 }
 
-// The leftmost use of the statement at q, which collects an element: its terms.
+// The leftmost unknown use of the statement at q, which collects an element: its terms.
 pub fn element_use(tape: &[u32], q: usize, terms: &[u32]) -> Use
     requires { ⌜ (q ≤ length (now tape)) × (roleOf (word (now tape) q) ≡ role.Element) ⌝ }
     ensures { λ r. ⌜ ((els seen : List ℕ) → asUse r ≡ unknownUse (envOf (now (tape .entry)) (now (terms .entry)) els seen) (theoryIn (saysAt (now (tape .entry)) q))) ⌝ }
@@ -100,7 +100,7 @@ pub fn element_use(tape: &[u32], q: usize, terms: &[u32]) -> Use
     unknown(tape, q, FIRST_TERM, n, terms)
 }
 
-// The leftmost use of an operator and a bound, which stand behind n elements of the theory atom at q.
+// The leftmost unknown use of an operator and a bound, which stand behind n elements of the theory atom at q.
 fn guard_use(tape: &[u32], q: usize, n: u32, terms: &[u32]) -> Use
     requires { ⌜ q ≤ farPlace ⌝ }
     ensures { λ r. ⌜ asUse r ≡ pick (eqb (word (now (tape .entry)) q) guardedKind) (unknownFrom (entered (now (terms .entry))) (4 + n + 1) (wordsFrom (now (tape .entry)) (q + (4 + n)) 2)) none ⌝ }
@@ -113,7 +113,7 @@ fn guard_use(tape: &[u32], q: usize, n: u32, terms: &[u32]) -> Use
     unknown(tape, q, behind, 2, terms)
 }
 
-// The leftmost use of the theory atom at q: its name, then its elements, then operator and bound.
+// The leftmost unknown use of the theory atom at q: its name, then its elements, then operator and bound.
 pub fn atom_use(tape: &[u32], q: usize, terms: &[u32], elements: &[u32]) -> Use
     requires { ⌜ (q ≤ length (now tape)) × (roleOf (word (now tape) q) ≡ role.Atom) ⌝ }
     ensures { λ r. ⌜ ((seen : List ℕ) → asUse r ≡ unknownUse (envOf (now (tape .entry)) (now (terms .entry)) (now (elements .entry)) seen) (theoryIn (saysAt (now (tape .entry)) q))) ⌝ }
