@@ -2,11 +2,15 @@
 //! times. Only with PLAN_JUDGE_LIB (see build.rs). PLAN_JUDGE_SEED chooses other inputs, PLAN_JUDGE_TIMES more of them.
 #![cfg(plan_judge)]
 mod common;
-use common::{check_crowded, check_heaviest, check_terms, check_traps, further, judged_by, q, refused, wrap, P};
+use common::ends::Ends;
+use common::{
+    check_crowded, check_heaviest, check_line_ends, check_terms, check_traps, further, judged_by, q, refused, wrap, P,
+};
 use second::judge::judging::{CYCLE_PLACES, ROOM_BYTES};
 use second::judge::timetable;
 use second::testing::damaging::damage;
 use second::testing::generating::{all_atoms, choice, padded};
+use second::testing::line_ends::{returned, some_returned, varied};
 use second::testing::random::Random;
 use second::testing::{cases, generating, proved};
 use second::{check_cycle, Refusal, Verdict};
@@ -27,18 +31,42 @@ fn times(n: u64) -> u64 {
     n * asked("PLAN_JUDGE_TIMES", 1)
 }
 
-/// How often each verdict came, by its number; 0 for accepted.
-type Counts = BTreeMap<u32, u64>;
-
-// Asks for enough of some numbers.
-fn ask(counts: &Counts, wanted: &[u32], least: u64) {
-    assert!(wanted.iter().all(|n| counts.get(n).is_some_and(|c| *c >= least)), "{counts:?}");
+/// What a test has fed: how often each verdict came, by its number (0 for accepted), and the line ends.
+#[derive(Debug, Default)]
+struct Counts {
+    verdicts: BTreeMap<u32, u64>,
+    texts: Ends,
+    cands: Ends,
 }
 
-// Prints the counts of a test, and asks for enough of some numbers.
-fn settle(test: &str, counts: &Counts, wanted: &[u32], least: u64) {
-    println!("{test}: {} inputs, {counts:?}", counts.values().sum::<u64>());
-    ask(counts, wanted, least);
+impl Counts {
+    // Counts an input and its verdict.
+    fn add(&mut self, text: &[u8], cand: &[u8], verdict: Verdict) {
+        let number = if let Verdict::Refused(r) = verdict { r.number } else { 0 };
+        *self.verdicts.entry(number).or_default() += 1;
+        self.texts.add(text);
+        self.cands.add(cand);
+    }
+
+    // How many inputs there were.
+    fn inputs(&self) -> u64 {
+        self.verdicts.values().sum()
+    }
+
+    // Asks for enough of some numbers.
+    fn ask(&self, wanted: &[u32], least: u64) {
+        assert!(wanted.iter().all(|n| self.verdicts.get(n).is_some_and(|c| *c >= least)), "{self:?}");
+    }
+
+    // Prints the counts of a test, and asks for enough of some numbers and of each kind of line ends.
+    fn settle(&self, test: &str, wanted: &[u32], least: u64) {
+        println!("{test}: {} inputs, {self:?}", self.inputs());
+        self.ask(wanted, least);
+        for ends in [self.texts, self.cands] {
+            ends.ask_returned();
+            ends.ask_unlike();
+        }
+    }
 }
 
 // An input as it can be pasted.
@@ -112,8 +140,7 @@ impl Both {
     // Compares, counts, and looks at some other showings too.
     fn count(&mut self, random: &mut Random, counts: &mut Counts, text: &[u8], cand: &[u8]) {
         let verdict = self.compare(text, cand);
-        let number = if let Verdict::Refused(r) = verdict { r.number } else { 0 };
-        *counts.entry(number).or_default() += 1;
+        counts.add(text, cand, verdict);
         let place = random.below(text.len().max(cand.len()) + 3) as u32;
         compare_showing(text, cand, *random.one_of(&SHOWN), place);
     }
@@ -206,10 +233,11 @@ fn weights() {
     check_heaviest(|text, cand| compare(text, cand));
 }
 
-// The part of a text that the proved judge shows.
-fn shown(text: &str, number: u32, place: u32) -> String {
-    let (from, length) = proved::shown(text.as_bytes(), b"\n", number, place);
-    text[from as usize..][..length as usize].to_string()
+// The part of a text or a candidate that the proved judge shows.
+fn shown(text: &[u8], cand: &[u8], Refusal { number, place }: Refusal) -> Vec<u8> {
+    let (from, length) = proved::shown(text, cand, number, place);
+    let bytes = if number == 7 { cand } else { text };
+    bytes[from as usize..][..length as usize].to_vec()
 }
 
 #[test]
@@ -222,16 +250,27 @@ fn terms() {
 }
 
 #[test]
+fn line_ends() {
+    check_line_ends("ends", |text, cand| compare(text, cand), shown);
+    let text = returned(P.as_bytes());
+    for place in 0..=text.len() as u32 {
+        compare_showing(&text, b"1 2 3\r\n", 3, place);
+        compare_showing(P.as_bytes(), &text, 7, place);
+    }
+}
+
+#[test]
 fn every_cut_of_plan_p() {
     let mut both = Both::wide(3);
     let weights = P.replace("1 0 1 2 0 1 1\n", "1 0 1 2 1 7 3 1 3 3 4 -2 1\n");
-    for text in [P.to_string(), q(), weights] {
+    let plans = [P.to_string(), q(), weights].map(String::into_bytes);
+    for text in plans.iter().cloned().chain(plans.iter().map(|text| returned(text))) {
         for end in 0..text.len() {
-            both.compare(&text.as_bytes()[..end], b"1 2 3\n");
+            both.compare(&text[..end], b"1 2 3\n");
             for byte in [0, 9, 10, 13, 32, b'-', b'0', b'1', b'9', 255] {
-                let mut changed = text.as_bytes().to_vec();
+                let mut changed = text.clone();
                 changed[end] = byte;
-                both.compare(&changed, b"1 2 3\n");
+                both.compare(&changed, b"1 2 3\r\n");
             }
         }
     }
@@ -267,10 +306,12 @@ fn long_texts() {
         assert_eq!(text.len(), length);
         let wanted = if length <= 60_000 { Verdict::Accepted(44) } else { refused(2, 60_000) };
         assert_eq!(both.compare(&text, b"1 2 3\n"), wanted);
-        for byte in [0, 10, 32, b'1', 255] {
+        for byte in [0, 10, 13, 32, b'1', 255] {
             both.compare(&vec![byte; length], b"1 2 3\n");
             both.compare(&[b"asp 1 0 0\n".to_vec(), vec![byte; length - 10]].concat(), b"\n");
+            both.compare(&[b"asp 1 0 0\r\n10 ".to_vec(), vec![byte; length - 14]].concat(), b"\n");
         }
+        assert_eq!(both.compare(&padded(&returned(P.as_bytes()), length), b"1 2 3\r\n"), wanted);
         let digits = [b"asp 1 0 0\n1 0 1 ".to_vec(), vec![b'1'; length - 16]].concat();
         both.compare(&digits, b"\n");
         both.compare(P.as_bytes(), &vec![b'1'; length]);
@@ -279,7 +320,8 @@ fn long_texts() {
     }
     let mut random = random(1);
     for _ in 0..times(60) {
-        let mut text = padded(&generating::rule_chain(2500, true).0, 59_990 + random.below(20));
+        let chain = some_returned(&mut random, generating::rule_chain(2500, true).0);
+        let mut text = padded(&chain, 59_990 + random.below(20));
         damage(&mut random, &mut text);
         both.compare(&text, b"\n");
     }
@@ -292,6 +334,8 @@ fn the_shortest_lines() {
         for length in (1_980..2_020).chain(59_980..=60_000) {
             let text = wrap(&line.repeat((length - 12) / line.len()));
             assert_eq!(both.compare(text.as_bytes(), b"\n"), Verdict::Accepted(16));
+            let text = wrap(&line.repeat((length - 14) / (line.len() + 1)));
+            assert_eq!(both.compare(&returned(text.as_bytes()), b"\r\n"), Verdict::Accepted(16));
         }
     }
 }
@@ -355,17 +399,17 @@ fn long_chains() {
 
 #[test]
 fn generated() {
-    let (mut random, mut both, mut counts) = (random(2), Both::wide(11), Counts::new());
+    let (mut random, mut both, mut counts) = (random(2), Both::wide(11), Counts::default());
     for _ in 0..times(90_000) {
         let (text, cand) = cases::case(&mut random);
         both.count(&mut random, &mut counts, &text, &cand);
     }
-    settle("generated", &counts, &[0, 3, 4, 5, 61, 62, 63, 64, 7, 8, 9, 10], 100);
+    counts.settle("generated", &[0, 3, 4, 5, 61, 62, 63, 64, 7, 8, 9, 10], 100);
 }
 
 #[test]
 fn damaged() {
-    let (mut random, mut both, mut counts) = (random(3), Both::wide(13), Counts::new());
+    let (mut random, mut both, mut counts) = (random(3), Both::wide(13), Counts::default());
     for _ in 0..times(3_000) {
         let made = cases::undamaged(&mut random);
         for _ in 0..20 {
@@ -373,8 +417,8 @@ fn damaged() {
             both.count(&mut random, &mut counts, &text, &cand);
         }
     }
-    settle("damaged", &counts, &[0, 3, 4, 5, 7, 8, 9, 10], 20);
-    ask(&counts, &[61, 62, 63, 64], counts.values().sum::<u64>() / 10);
+    counts.settle("damaged", &[0, 3, 4, 5, 7, 8, 9, 10], 20);
+    counts.ask(&[61, 62, 63, 64], counts.inputs() / 10);
 }
 
 // Fields of any kind in lines of any length, often with the header and the `0` line.
@@ -401,58 +445,62 @@ fn any_text(random: &mut Random) -> Vec<u8> {
     text
 }
 
-// Bytes of any kind, many of them digits, spaces and line ends.
+// Bytes of any kind, many of them digits, spaces, 10 and 13.
 fn any_bytes(random: &mut Random, most: usize) -> Vec<u8> {
     let n = random.below(most + 1);
     let byte = |r: &mut Random| match r.below(4) {
         0 => r.below(256) as u8,
-        _ => *r.one_of(b"0123456789 \n-"),
+        _ => *r.one_of(b"0123456789 \n\r-"),
     };
     (0..n).map(|_| byte(random)).collect()
 }
 
 #[test]
 fn any_texts() {
-    let (mut random, mut both, mut counts) = (random(4), Both::wide(15), Counts::new());
+    let (mut random, mut both, mut counts) = (random(4), Both::wide(15), Counts::default());
     for i in 0..times(60_000) {
         let text = match i % 4 {
             0 => any_bytes(&mut random, 60),
             1 => [b"asp 1 0 0\n".to_vec(), any_bytes(&mut random, 40)].concat(),
             _ => any_text(&mut random),
         };
-        let cand = match i % 3 {
+        let cand = match i % 6 {
             0 => any_bytes(&mut random, 12),
+            3 => [any_bytes(&mut random, 12), b"\n".to_vec()].concat(),
             _ => b"1 2\n".to_vec(),
         };
+        let (text, cand) = varied(&mut random, (text, cand));
         both.count(&mut random, &mut counts, &text, &cand);
     }
-    settle("any texts", &counts, &[3, 4, 5, 62, 7], 50);
+    counts.settle("any texts", &[3, 4, 5, 62, 7], 40);
 }
 
 #[test]
 fn networks() {
-    let (mut random, mut both, mut counts) = (random(5), Both::wide(19), Counts::new());
+    let (mut random, mut both, mut counts) = (random(5), Both::wide(19), Counts::default());
     for _ in 0..times(12_000) {
-        let (text, cand) = generating::network(&mut random);
+        let made = generating::network(&mut random);
+        let (text, cand) = varied(&mut random, made);
         both.count(&mut random, &mut counts, &text, &cand);
     }
-    settle("networks", &counts, &[0, 10], 1_000);
+    counts.settle("networks", &[0, 10], 1_000);
 }
 
 #[test]
 fn loose_theories() {
-    let (mut random, mut both, mut counts) = (random(6), Both::wide(21), Counts::new());
+    let (mut random, mut both, mut counts) = (random(6), Both::wide(21), Counts::default());
     for _ in 0..times(30_000) {
         let text = generating::loose(&mut random);
         let cand = generating::candidate(&mut random, &text);
+        let (text, cand) = varied(&mut random, (text, cand));
         both.count(&mut random, &mut counts, &text, &cand);
     }
-    settle("loose theories", &counts, &[0, 61, 62, 63, 64, 8], 100);
+    counts.settle("loose theories", &[0, 61, 62, 63, 64, 8], 100);
 }
 
 #[test]
 fn rooms_of_random_sizes() {
-    let (mut random, mut counts) = (random(7), Counts::new());
+    let (mut random, mut counts) = (random(7), Counts::default());
     for _ in 0..times(2_000) {
         let (text, cand) = cases::case(&mut random);
         let room = ROOM_BYTES - 3 + random.below(8);
@@ -460,7 +508,7 @@ fn rooms_of_random_sizes() {
         let mut both = Both::new(room, cycle, random.below(256) as u32);
         both.count(&mut random, &mut counts, &text, &cand);
     }
-    settle("rooms of random sizes", &counts, &[0, 1, 3, 8], 20);
+    counts.settle("rooms of random sizes", &[0, 1, 3, 8], 20);
 }
 
 // Ascending numbers up to a largest.
@@ -527,18 +575,23 @@ fn timetables() {
 
 #[test]
 fn further_time_rules() {
-    let mut random = random(9);
+    let (mut random, mut texts, mut cands) = (random(9), Ends::default(), Ends::default());
     let mut seen: BTreeMap<&str, u32> = BTreeMap::new();
     for _ in 0..times(30_000) {
-        let text = generating::plan(&mut random);
-        let cand = generating::candidate(&mut random, &text);
-        let Some(e) = further::extended(&mut random, &text, &cand) else { continue };
+        let made = generating::plan(&mut random);
+        let cand = generating::candidate(&mut random, &made);
+        let (text, cand) = (some_returned(&mut random, made), some_returned(&mut random, cand));
+        let Some(mut e) = further::extended(&mut random, &text, &cand) else { continue };
+        e.cand = some_returned(&mut random, e.cand);
+        [&text, &e.text].iter().for_each(|bytes| texts.add(bytes));
+        [&cand, &e.cand].iter().for_each(|bytes| cands.add(bytes));
         let old = judged_by(proved::judge, &text, &cand);
         let new = judged_by(proved::judge, &e.text, &e.cand);
         for part in further::check(&old, &new, &text, &e, proved::time) {
             *seen.entry(part).or_default() += 1;
         }
     }
-    println!("further time rules: {seen:?}");
+    println!("further time rules: {seen:?}, {texts:?}, {cands:?}");
+    [texts, cands].iter().for_each(Ends::ask_returned);
     assert!(seen.len() == 6 && seen.values().all(|n| *n > 100), "{seen:?}");
 }

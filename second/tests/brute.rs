@@ -2,6 +2,8 @@
 mod common;
 use common::writing::written;
 use common::*;
+use second::judge::fields::LineEnd;
+use second::testing::line_ends::returned;
 use second::testing::random::Random;
 use second::testing::{cases, generating};
 use second::{
@@ -266,23 +268,31 @@ fn check_against_readers(text: &[u8], cand: &[u8], verdict: Verdict) {
     }
 }
 
+// Some lines, ended by byte 10, with the line ends of the bytes that they were read from.
+fn ended_as(bytes: &[u8], lines: Vec<u8>) -> Vec<u8> {
+    match LineEnd::kind_of(bytes) {
+        LineEnd::Feed => lines,
+        LineEnd::Return => returned(&lines),
+    }
+}
+
 #[test]
 fn reading_keeps_every_byte() {
     let mut random = Random::new(4);
-    let mut read = 0;
+    let mut read = [0; 2];
     for _ in 0..40_000 {
         let (text, cand) = cases::case(&mut random);
         if let Ok(lines) = read_text(&text) {
             let again: Vec<Vec<u8>> = lines.iter().map(|l| written(&l.statement)).collect();
-            assert_eq!(generating::text_of(&again), text);
+            assert_eq!(ended_as(&text, generating::text_of(&again)), text);
             assert!(lines.iter().zip(&again).all(|(l, w)| text[l.place as usize..].starts_with(w)));
-            read += 1;
+            read[usize::from(LineEnd::kind_of(&text) == LineEnd::Return)] += 1;
         }
         if let Ok(atoms) = read_candidate(&cand) {
-            assert_eq!(generating::candidate_of(&atoms), cand);
+            assert_eq!(ended_as(&cand, generating::candidate_of(&atoms)), cand);
         }
     }
-    assert!(read > 10_000);
+    assert!(read.iter().all(|n| *n > 10_000), "{read:?}");
 }
 
 // A text cut at any byte is refused, and at the length if the cut part had no other fault.

@@ -77,10 +77,7 @@ fn weights() {
 
 #[test]
 fn terms() {
-    check_terms(
-        |text, cand| verdict(text, cand),
-        |text, number, place| String::from_utf8(show(text.as_bytes(), b"\n", number, place).to_vec()).unwrap(),
-    );
+    check_terms(|text, cand| verdict(text, cand), common::shown);
 }
 
 #[test]

@@ -302,7 +302,8 @@ fn first_line() {
     assert_eq!(text("asp 1 0 0 "), Some((4, 9)));
     assert_eq!(text("asp 1 0 0 \n0\n"), Some((4, 9)));
     assert_eq!(text("asp 1 0 00\n0\n"), Some((3, 9)));
-    assert_eq!(text("asp 1 0 0\r\n0\n"), Some((3, 9)));
+    assert_eq!(text("asp 1 0 0\r\n0\n"), Some((3, 12)));
+    assert_eq!(text("asp 1 0 0\r0\n"), Some((3, 9)));
     assert_eq!(text("asp 1 0 0\n"), Some((3, 10)));
     assert_eq!(text("asp 1 0 0\n0\n"), None);
 }
@@ -318,15 +319,18 @@ fn last_line() {
     assert_eq!(lines("1 0 0 0 0\n"), Some((3, 10)));
     assert_eq!(lines("00\n"), Some((3, 0)));
     assert_eq!(lines("-0\n"), Some((3, 0)));
-    assert_eq!(lines("0\r\n"), Some((3, 0)));
+    assert_eq!(lines("0\r\n"), Some((3, 1)));
+    assert_eq!(lines("0\r"), Some((3, 0)));
 }
 
 #[test]
-fn tabs_belong_to_fields() {
+fn tabs_and_returns_belong_to_fields() {
     assert_eq!(line("1\t0 0 0 0"), Some((3, 0)));
     assert_eq!(line("1 0\t0 0 0"), Some((3, 2)));
     assert_eq!(line("1 0 0 0 0\t"), Some((3, 8)));
-    assert_eq!(line("1 0 0 0 0\r"), Some((3, 8)));
+    assert_eq!(line("1 0 0 0 0\r"), Some((3, 9)));
+    assert_eq!(line("1 0 0 0 0\rx"), Some((3, 8)));
+    assert_eq!(line("1 0 0\r 0 0"), Some((3, 4)));
     assert_eq!(line(b"1 0 0 0 0\0"), Some((3, 8)));
     assert_eq!(line("1 0 0 0 1 \t1"), Some((3, 10)));
 }
@@ -484,7 +488,8 @@ fn candidates() {
     assert_eq!(cand("2 2\n"), Some((7, 2)));
     assert_eq!(cand("2 2 x"), Some((7, 2)));
     assert_eq!(cand("3 4 4097 -"), Some((7, 4)));
-    assert_eq!(cand("1\r\n"), Some((7, 0)));
+    assert_eq!(cand("1\r\n"), None);
+    assert_eq!(cand("1\r"), Some((7, 0)));
     assert_eq!(cand("1\t2\n"), Some((7, 0)));
     assert_eq!(cand("1 2x\n"), Some((7, 2)));
     assert_eq!(cand(b"1 \0\n"), Some((7, 2)));

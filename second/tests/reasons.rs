@@ -1,6 +1,7 @@
 //! What is wrong with the terms: 61 to 64 beside document 01's test for 6, and the damaged plans that have them.
 mod common;
 use common::*;
+use second::judge::fields::LineEnd;
 use second::testing::cases::{damaged, undamaged};
 use second::testing::generating;
 use second::testing::random::Random;
@@ -114,6 +115,10 @@ type Field = (u32, &'static str, u32);
 fn fields(text: &[u8], place: u32) -> Vec<(u32, i64)> {
     let (mut fields, mut place) = (Vec::new(), place);
     let line = text[place as usize..].split(|b| *b == b'\n').next().unwrap_or(&[]);
+    let line = match LineEnd::kind_of(text) {
+        LineEnd::Feed => line,
+        LineEnd::Return => line.strip_suffix(b"\r").unwrap_or(line),
+    };
     for field in line.split(|b| *b == b' ') {
         fields.push((place, String::from_utf8_lossy(field).parse().unwrap_or(0)));
         place += field.len() as u32 + 1;
@@ -352,7 +357,7 @@ const WANTED: &[&str] = &[
 #[test]
 fn the_damaged_plans_have_every_way() {
     let mut seen: BTreeMap<String, u32> = BTreeMap::new();
-    damaged_plans(20_000, |text, _| {
+    damaged_plans(30_000, |text, _| {
         let lines = read_text(text).unwrap_or_default();
         let Some(i) = first_six(&lines) else { return };
         for word in words(text, &lines[..i], &lines[i]) {

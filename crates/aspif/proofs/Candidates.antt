@@ -13,11 +13,13 @@ use Rattle.faults.specs.Limits.{lastAtom}
 use Rattle.faults.specs.inner.Places.{atomPlaces}
 use Rattle.faults.specs.Answer.{got, refused}
 use Rattle.fields.specs.Reading.{Reading, found, fault, isFound, andThen}
+use Rattle.fields.specs.declared.LineEnd.{LineEnd}
+use Rattle.fields.specs.declared.LineEnd.the-variants as by
 use Rattle.fields.specs.Fields.{byteAt, byte, lineEnd, textEnd, field, allDigits, isNatural, value, natural}
 use Rattle.fields.proofs.Decimal.{value-grows}
 use Rattle.fields.proofs.Naturals.{byte-read, byte-missed, there}
 use Rattle.fields.proofs.Readers.{natural-within}
-use Rattle.aspif.specs.Grammar.{answer, lastLine}
+use Rattle.aspif.specs.Grammar.{answer}
 use Rattle.aspif.specs.Candidate.{sevenfold, atomAbove, ending, ascending, candidateLine, candidate}
 use Rattle.aspif.specs.inner.Bitmap.{atomsOf, Blank, EndsAt}
 use Rattle.basics.specs.Bools.{pick}
@@ -98,18 +100,26 @@ above low s at = go (natural 7 lastAtom s at) refl
 
 -- what the end is: a fault at it or behind it, or nothing more
 data Ended (s : List ℕ) (at : ℕ) : Reading Unit → Type 0 where
-  more : {p : ℕ} → p ≤ length s → p ≤ at + 1 → Ended s at (fault 7 p)
+  more : {p : ℕ} → p ≤ length s → p ≤ at + 2 → Ended s at (fault 7 p)
   over : {n : ℕ} → Ended s at (found tt n)
 
-ended : (s : List ℕ) (at : ℕ) → at ≤ length s → Ended s at (ending s at)
-unfolding ending lastLine lineEnd textEnd byte
-ended s at l = go (eqb (byteAt s at) 10) (ltb (at + 1) (length s)) refl
+-- nothing after a line end
+closed : (s : List ℕ) (at n : ℕ) → n ≤ at + 2 → Ended s at (sevenfold (textEnd s n))
+unfolding textEnd
+closed s at n h = go (ltb n (length s)) refl
   where
-    go : (t u : Bool) → ltb (at + 1) (length s) ≡ u
-        → Ended s at (sevenfold (andThen (pick t (found (tt {0}) (at + 1)) (fault 3 at)) (λ v n. pick (ltb n (length s)) (fault 3 n) (found tt n))))
-    go true true q = rw q (more {p = at + 1} (omega (arith, ltb-true (at + 1) (length s) q)) (omega arith))
-    go true false q = rw q over
-    go false u q = more l (omega arith)
+    go : (t : Bool) → ltb n (length s) ≡ t → Ended s at (sevenfold (pick t (fault 3 n) (found (tt {0}) n)))
+    go true q = more {p = n} (omega (arith, ltb-true n (length s) q)) h
+    go false q = over
+
+ended : (s : List ℕ) (at : ℕ) → at ≤ length s → Ended s at (ending s at)
+unfolding ending lineEnd
+ended s at l = go (eqb (byteAt s at) 10) (eqb (byteAt s at) 13 && eqb (byteAt s (at + 1)) 10)
+  where
+    go : (t u : Bool) → Ended s at (sevenfold (andThen (pick t (found by.Feed (at + 1)) (pick u (found by.Return (at + 2)) (fault 3 at))) (λ e n. textEnd s n)))
+    go true u = closed s at (at + 1) (omega arith)
+    go false true = closed s at (at + 2) (omega arith)
+    go false false = more l (omega arith)
 
 -- ---- the counter
 
@@ -232,11 +242,11 @@ module _ {s x : List ℕ} {low at : ℕ} {whole : Reading (List ℕ)} (h : Marki
 -- ---- what a candidate is
 
 module _ (s : List ℕ) where
-  pub empty-refused : {i k p : ℕ} → found tt i ≡ lineEnd s 0 → fault k p ≡ ending s 0 → refused k p ≡ candidate s
+  pub empty-refused : {e : LineEnd} {i k p : ℕ} → found e i ≡ lineEnd s 0 → fault k p ≡ ending s 0 → refused k p ≡ candidate s
   unfolding candidate candidateLine
   empty-refused b e = rw (← b, ← e)
 
-  pub empty-good : {i n : ℕ} → found tt i ≡ lineEnd s 0 → found tt n ≡ ending s 0 → got [] ≡ candidate s
+  pub empty-good : {e : LineEnd} {i n : ℕ} → found e i ≡ lineEnd s 0 → found tt n ≡ ending s 0 → got [] ≡ candidate s
   unfolding candidate candidateLine
   empty-good b e = rw (← b, ← e)
 
@@ -259,37 +269,37 @@ module _ (low far : ℕ) (s : List ℕ) (v : ℕ) (above : low < v) (most : v �
   listed-more near h _ (good {vs} d) = good {vs = v ∷ vs} (above, most, d)
   listed-more near h _ (bad i j) = bad i (omega arith)
 
-  listed-last : (at : ℕ) → at + 1 ≤ far → (a : Reading (Unit {0})) → Ended s at a → Listed low far s (andThen a (λ u l. found (v ∷ []) l))
+  listed-last : (at : ℕ) → at + 2 ≤ far → (a : Reading (Unit {0})) → Ended s at a → Listed low far s (andThen a (λ u l. found (v ∷ []) l))
   listed-last at h _ (more i j) = bad i (omega arith)
   listed-last at h _ over = good {vs = v ∷ []} (above, most, tt)
 
-listed : (n low : ℕ) (s : List ℕ) (at : ℕ) → at ≤ length s → Listed low (at + 5 * n) s (ascending n low s at)
+listed : (n low : ℕ) (s : List ℕ) (at : ℕ) → at ≤ length s → Listed low (at + 5 * n + 1) s (ascending n low s at)
 unfolding ascending
 listed zero low s at h = bad h (omega arith)
 listed (suc n) low s at h = go (λ v m. listed n v s (m + 1)) (atomAbove low s at) (above low s at)
   where
-    go₂ : ((v m : ℕ) → m + 1 ≤ length s → Listed v (m + 1 + 5 * n) s (ascending n v s (m + 1))) → (v m : ℕ) → low < v → v ≤ lastAtom → m ≤ length s → m ≤ at + 4
+    go₂ : ((v m : ℕ) → m + 1 ≤ length s → Listed v (m + 1 + 5 * n + 1) s (ascending n v s (m + 1))) → (v m : ℕ) → low < v → v ≤ lastAtom → m ≤ length s → m ≤ at + 4
         → (t : Bool) → eqb (byteAt s m) 32 ≡ t
-        → Listed low (at + 5 * suc n) s (pick t (andThen (ascending n v s (m + 1)) (λ vs l. found (v ∷ vs) l)) (andThen (ending s m) (λ u l. found (v ∷ []) l)))
+        → Listed low (at + 5 * suc n + 1) s (pick t (andThen (ascending n v s (m + 1)) (λ vs l. found (v ∷ vs) l)) (andThen (ending s m) (λ u l. found (v ∷ []) l)))
     go₂ r v m l k i j true q =
         let b = there 32 s m (lit< tt) (eqb-true (byteAt s m) 32 q) in
-        listed-more low (at + 5 * suc n) s v l k (m + 1 + 5 * n) (omega arith) _ (r v m (omega arith))
-    go₂ r v m l k i j false q = listed-last low (at + 5 * suc n) s v l k m (omega arith) _ (ended s m i)
+        listed-more low (at + 5 * suc n + 1) s v l k (m + 1 + 5 * n + 1) (omega arith) _ (r v m (omega arith))
+    go₂ r v m l k i j false q = listed-last low (at + 5 * suc n + 1) s v l k m (omega arith) _ (ended s m i)
 
-    go : ((v m : ℕ) → m + 1 ≤ length s → Listed v (m + 1 + 5 * n) s (ascending n v s (m + 1))) → (a : Reading ℕ) → Above low s at a
-        → Listed low (at + 5 * suc n) s (andThen a (onward n s))
+    go : ((v m : ℕ) → m + 1 ≤ length s → Listed v (m + 1 + 5 * n + 1) s (ascending n v s (m + 1))) → (a : Reading ℕ) → Above low s at a
+        → Listed low (at + 5 * suc n + 1) s (andThen a (onward n s))
     go r _ none = bad h (omega arith)
     go r _ (some {v} {n = m} l k i j) = go₂ r v m l k i j (eqb (byteAt s m) 32) refl
 
-atoms-listed : (s : List ℕ) → Listed 0 20480 s (candidateLine s 0)
+atoms-listed : (s : List ℕ) → Listed 0 20481 s (candidateLine s 0)
 unfolding candidateLine
 atoms-listed s = go (isFound (lineEnd s 0))
   where
-    empty : (a : Reading (Unit {0})) → Ended s 0 a → Listed 0 20480 s (andThen a (λ u n. found [] n))
+    empty : (a : Reading (Unit {0})) → Ended s 0 a → Listed 0 20481 s (andThen a (λ u n. found [] n))
     empty _ (more i j) = bad i (omega arith)
     empty _ over = good tt
 
-    go : (t : Bool) → Listed 0 20480 s (pick t (andThen (ending s 0) (λ u n. found [] n)) (ascending lastAtom 0 s 0))
+    go : (t : Bool) → Listed 0 20481 s (pick t (andThen (ending s 0) (λ u n. found [] n)) (ascending lastAtom 0 s 0))
     go true = empty (ending s 0) (ended s 0 (omega arith))
     go false = listed lastAtom 0 s 0 (omega arith)
 
@@ -298,15 +308,15 @@ pub candidate-ascending : (s vs : List ℕ) → candidate s ≡ got vs → Ascen
 unfolding candidate
 candidate-ascending s vs = go (candidateLine s 0) (atoms-listed s)
   where
-    go : (a : Reading (List ℕ)) → Listed 0 20480 s a → answer a ≡ got vs → AscendingFrom 0 vs
+    go : (a : Reading (List ℕ)) → Listed 0 20481 s a → answer a ≡ got vs → AscendingFrom 0 vs
     go _ (good {vs = ws} h) e = let z : vs ≡ ws = (cc) in rw z h
     go _ (bad i j) e = let z : _≡_ {A = ℕ} 0 1 = (cc) in absurd (omega arith)
 
-refused-listed : (s : List ℕ) (k p : ℕ) → candidate s ≡ refused k p → (k ≡ 7) × (p ≤ length s) × (p ≤ 20480)
+refused-listed : (s : List ℕ) (k p : ℕ) → candidate s ≡ refused k p → (k ≡ 7) × (p ≤ length s) × (p ≤ 20481)
 unfolding candidate
 refused-listed s k p = go (candidateLine s 0) (atoms-listed s)
   where
-    go : (a : Reading (List ℕ)) → Listed 0 20480 s a → answer a ≡ refused k p → (k ≡ 7) × (p ≤ length s) × (p ≤ 20480)
+    go : (a : Reading (List ℕ)) → Listed 0 20481 s a → answer a ≡ refused k p → (k ≡ 7) × (p ≤ length s) × (p ≤ 20481)
     go _ (good h) e = let z : _≡_ {A = ℕ} 0 1 = (cc) in absurd (omega arith)
     go _ (bad {p = q} i j) e = let z : q ≡ p = (cc) in ((cc), omega arith, omega arith)
 
@@ -314,6 +324,6 @@ refused-listed s k p = go (candidateLine s 0) (atoms-listed s)
 pub candidate-place : (s : List ℕ) (k p : ℕ) → candidate s ≡ refused k p → (k ≡ 7) × (p ≤ length s)
 candidate-place s k p e = let h = refused-listed s k p e in (h .0, h .1)
 
--- a candidate is refused within its first 4,096 fields, each of at most four digits and a space
-pub candidate-near : (s : List ℕ) (k p : ℕ) → candidate s ≡ refused k p → p ≤ 20480
+-- a candidate is refused within its first 4,096 fields, each of at most four digits and a space, and a line end of two bytes
+pub candidate-near : (s : List ℕ) (k p : ℕ) → candidate s ≡ refused k p → p ≤ 20481
 candidate-near s k p e = refused-listed s k p e .2

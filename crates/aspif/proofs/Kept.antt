@@ -17,9 +17,11 @@ use Rattle.faults.specs.Limits.{lastTerm, mostCount, largestNumber, largestBoun
 use Rattle.fields.specs.Reading.{Reading, found}
 use Rattle.fields.specs.Fields.{space, byteAt, allPositive, natural, weightUnit, counted}
 use Rattle.fields.specs.inner.Kept.{IsAtom, Fits, ByteOf, ItemKept}
-use Rattle.fields.proofs.Readers.{ByReading, Reads, finds, stops, Any, by-grammar, by-carried, by-bounds, reads-found, reads-pick, reads-either, reads-so, reads-then, byte-reads, bytes-reads, lineEnd-reads, textEnd-reads, natural-reads, nextNatural-reads, nextInteger-reads, nextAtom-reads, nextTerm-reads, nextElement-reads, counted-reads, string-reads, rest-reads}
+use Rattle.fields.proofs.Readers.{ByReading, Reads, finds, stops, Any, by-grammar, by-carried, by-bounds, reads-found, reads-pick, reads-either, reads-so, reads-then, byte-reads, bytes-reads, lineEnd-reads, lineEndOf-reads, textEnd-reads, natural-reads, nextNatural-reads, nextInteger-reads, nextAtom-reads, nextTerm-reads, nextElement-reads, counted-reads, string-reads, rest-reads}
+use Rattle.fields.specs.declared.LineEnd.{LineEnd}
+use Rattle.aspif.specs.declared.lines.Header.{Header}
 use Rattle.aspif.specs.Statements.{Literal, positive, negated, choice, num, str, comp, defines, collects, states, Statement, rule, output, theory, comment, Line, atomOf}
-use Rattle.aspif.specs.Grammar.{literalOf, integerOf, premiseOf, plainHead, headOf, heads, literals, normalBody, weightBody, body, ruleLine, outputLine, numericLine, stringLine, compoundLine, elementLine, Front, front, theoryLine, guardedLine, commentLine, theoryOf, theoryPart, statementOf, lineOf, lastLine, lines, noTag, firstLine, plan, answer, statements}
+use Rattle.aspif.specs.Grammar.{opening, literalOf, integerOf, premiseOf, plainHead, headOf, heads, literals, normalBody, weightBody, body, ruleLine, outputLine, numericLine, stringLine, compoundLine, elementLine, Front, front, theoryLine, guardedLine, commentLine, theoryOf, theoryPart, statementOf, lineOf, lastLine, lines, noTag, firstLine, plan, answer, statements}
 use Rattle.aspif.specs.inner.Kept.{IsTerm, IsElement, IsByte, FromTo, Counted, SmallLiterals, SmallHead, SmallPremise, SmallBody, SmallWith, AllSmallWith, AllSmall, AllInRange}
 use Rattle.fields.specs.declared.Item.the-variants as of
 
@@ -174,11 +176,11 @@ module _ (s : List ℕ) where
       reads-then (nextTerm-reads s n) (λ g m i j.
       reads-then (nextTerm-reads s m) (λ u o k e. reads-found (h .0, h .1, h .2, (i, k))))))
 
-  comment-reads : (at : ℕ) → Reads Fine s at 1 (commentLine s at)
+  comment-reads : (e : LineEnd) (at : ℕ) → Reads Fine s at 1 (commentLine e s at)
   unfolding commentLine
-  comment-reads at =
+  comment-reads e at =
       reads-then (byte-reads space (lit< tt) s at) (λ u n h l.
-      reads-then (rest-reads s n) (λ bs m i j. reads-found i))
+      reads-then (rest-reads e s n) (λ bs m i j. reads-found i))
 
   -- a type that is not listed is refused where it stands, which is before the place where it ends
   theoryOf-reads : (k place at : ℕ) → place ≤ at → Reads Fine s at 1 (theoryOf k place s at)
@@ -197,26 +199,26 @@ module _ (s : List ℕ) where
       reads-so (λ x h. h) (omega arith)
       (reads-then (nextNatural-reads 3 6 by-grammar s at) (λ k n h l. theoryOf-reads k (at + 1) n (omega arith)))
 
-  statement-reads : (k place at : ℕ) → place ≤ at → Reads Fine s at 1 (statementOf k place s at)
+  statement-reads : (e : LineEnd) (k place at : ℕ) → place ≤ at → Reads Fine s at 1 (statementOf e k place s at)
   unfolding statementOf
-  statement-reads k place at near =
+  statement-reads e k place at near =
       reads-either (eqb k 1) _ _ (rule-reads at)
       (reads-either (eqb k 4) _ _ (output-reads at)
       (reads-either (eqb k 9) _ _ (theoryPart-reads at)
-      (reads-either (eqb k 10) _ _ (comment-reads at) (stops by-carried (λ i. omega arith)))))
+      (reads-either (eqb k 10) _ _ (comment-reads e at) (stops by-carried (λ i. omega arith)))))
 
   -- a line, by the place of its first byte
-  pub line-reads : (k place at : ℕ) → place ≤ at → Reads (λ x. (x .place ≡ place) × Fine (x .says)) s at 2 (lineOf k place s at)
+  pub line-reads : (e : LineEnd) (k place at : ℕ) → place ≤ at → Reads (λ x. (x .place ≡ place) × Fine (x .says)) s at 2 (lineOf e k place s at)
   unfolding lineOf
-  line-reads k place at near =
-      reads-then (statement-reads k place at near) (λ x n h l.
-      reads-then (lineEnd-reads s n) (λ u m i j. reads-found (refl, h)))
+  line-reads e k place at near =
+      reads-then (statement-reads e k place at near) (λ x n h l.
+      reads-then (lineEndOf-reads e s n) (λ u m i j. reads-found (refl, h)))
 
   -- ---- the text
 
-  last-reads : (at : ℕ) → Reads Any s at 1 (lastLine s at)
+  last-reads : (e : LineEnd) (at : ℕ) → Reads Any s at 1 (lastLine e s at)
   unfolding lastLine
-  last-reads at = reads-then (lineEnd-reads s at) (λ u n h l. textEnd-reads s n)
+  last-reads e at = reads-then (lineEndOf-reads e s at) (λ u n h l. textEnd-reads s n)
 
   -- lines whose places ascend strictly from `low` on, within the text
   abbrev From : (low : ℕ) → List Line → Type 0
@@ -227,17 +229,17 @@ module _ (s : List ℕ) where
   from-below low high h [] f = tt
   from-below low high h (x ∷ xs) f = (omega (arith, f .0), f .1, f .2, f .3)
 
-  lines-reads : (n at : ℕ) → Reads (From at) s at 0 (lines n s at)
+  lines-reads : (first : Header) (n at : ℕ) → Reads (From at) s at 0 (lines first n s at)
   unfolding lines
-  lines-reads zero at = stops by-grammar (λ h. h)
-  lines-reads (suc n) at =
+  lines-reads first zero at = stops by-grammar (λ h. h)
+  lines-reads first (suc n) at =
       reads-so (λ xs h. h) (omega arith)
       (reads-then {e = 0} (type-reads at) (λ k m h l.
       reads-either (eqb k 0) _ _
-      (reads-so (λ xs g. g) (omega arith) (reads-then (last-reads m) (λ u o i j. reads-found tt)))
+      (reads-so (λ xs g. g) (omega arith) (reads-then (last-reads (first .ends) m) (λ u o i j. reads-found tt)))
       (reads-so (λ xs g. g) (omega arith)
-      (reads-then (line-reads k at m (omega arith)) (λ x o i j.
-      reads-then (lines-reads n o) (λ xs p f g.
+      (reads-then (line-reads (first .ends) k at m (omega arith)) (λ x o i j.
+      reads-then (lines-reads first n o) (λ xs p f g.
       reads-found (omega (arith, i .0), omega (arith, i .0), i .1, from-below (x .place + 1) o (omega (arith, i .0)) xs f)))))))
     where
       -- the type of a line stands within the text
@@ -251,14 +253,14 @@ module _ (s : List ℕ) where
   pub first-reads : (at : ℕ) → Reads Any s at 10 (firstLine s at)
   unfolding firstLine noTag allPositive
   first-reads at =
-      reads-then (bytes-reads (97 ∷ 115 ∷ 112 ∷ 32 ∷ 49 ∷ 32 ∷ 48 ∷ 32 ∷ 48 ∷ []) refl s at) (λ u n h l.
-      reads-pick (eqb (byteAt s n) 32) (stops by-carried (λ i. i)) (lineEnd-reads s n))
+      reads-then (bytes-reads opening refl s at) (λ u n h l.
+      reads-then {e = 0} (reads-pick (eqb (byteAt s n) 32) (stops by-carried (λ i. i)) (lineEnd-reads s n)) (λ e m i j. reads-found tt))
 
   plan-reads : (at : ℕ) → Reads (From 0) s at 0 (plan s at)
   unfolding plan
   plan-reads at =
       reads-so (λ xs h. h) (omega arith)
-      (reads-then {e = 0} (first-reads at) (λ u n h l. reads-so (λ xs f. from-below 0 n (omega arith) xs f) (omega arith) (lines-reads (length s) n)))
+      (reads-then {e = 0} (first-reads at) (λ first n h l. reads-so (λ xs f. from-below 0 n (omega arith) xs f) (omega arith) (lines-reads first (length s) n)))
 
 -- ---- what a text says
 
@@ -295,8 +297,8 @@ module _ (s : List ℕ) where
   of-bytes h b i = rw (i .1) (h (i .0))
 
   -- lines that were read keep to their bounds
-  pub lines-small : (n at : ℕ) (xs : List Line) (m : ℕ) → Bytes s → found xs m ≡ lines n s at → AllSmall xs
-  lines-small n at xs m b e = go (lines n s at) (lines-reads s n at) e
+  pub lines-small : (first : Header) (n at : ℕ) (xs : List Line) (m : ℕ) → Bytes s → found xs m ≡ lines first n s at → AllSmall xs
+  lines-small first n at xs m b e = go (lines first n s at) (lines-reads s first n at) e
     where
       go : (a : Reading (List Line)) → Reads (From s at) s at 0 a → found xs m ≡ a → AllSmall xs
       go _ (finds {v = ys} f l w) d = let z : ys ≡ xs = (cc) in rw z at (small-from (of-bytes b) at ys f)

@@ -7,3 +7,5 @@ pub mod Candidates
 pub mod Fronts
 pub mod Turns
 pub mod Walking
+pub mod Before
+pub mod Ends

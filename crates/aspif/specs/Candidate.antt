@@ -5,9 +5,9 @@ use lib.Dec.{eqb, leb}
 use Rattle.faults.specs.Limits.{lastAtom}
 use Rattle.faults.specs.Answer.{Answer}
 use Rattle.basics.specs.Bools.{pick}
-use Rattle.fields.specs.Reading.{Reading, found, fault, Reader, isFound, andThen}
-use Rattle.fields.specs.Fields.{space, byteAt, lineEnd, natural}
-use Rattle.aspif.specs.Grammar.{answer, lastLine}
+use Rattle.fields.specs.Reading.{Reading, found, fault, Reader, isFound, andThen, _>>_}
+use Rattle.fields.specs.Fields.{space, byteAt, lineEnd, textEnd, natural}
+use Rattle.aspif.specs.Grammar.{answer}
 
 -- the same answer, with any fault as 7
 abbrev pub sevenfold : {A : Type 0} → Reading A → Reading A
@@ -18,9 +18,9 @@ sevenfold (fault k p) = fault 7 p
 unfoldable pub atomAbove : (low : ℕ) → Reader ℕ
 atomAbove low s at = andThen (sevenfold (natural 7 lastAtom s at)) (λ v n. pick (leb v low) (fault 7 at) (found v n))
 
--- a line end, and nothing after it
+-- a line end of either kind, and nothing after it
 unfoldable pub ending : Reader Unit
-ending s at = sevenfold (lastLine s at)
+ending s at = sevenfold ((lineEnd >> textEnd) s at)
 
 -- at most n atoms, strictly ascending above low, one space between
 unfoldable pub ascending : (n low : ℕ) → Reader (List ℕ)

@@ -9,8 +9,10 @@ use Rattle.basics.specs.Bools.{pick}
 use Rattle.faults.specs.Limits.{lastTerm, mostCount, largestNumber, largestBound}
 use Rattle.faults.specs.Answer.{Answer, got, refused}
 use Rattle.fields.specs.declared.Item.the-variants as of
+use Rattle.fields.specs.declared.LineEnd.{LineEnd}
 use Rattle.fields.specs.Reading.{Reading, found, fault, Reader, andThen, _>>=_, _>>_, pure}
-use Rattle.fields.specs.Fields.{space, byteAt, byte, bytes, lineEnd, textEnd, natural, nextNatural, nextInteger, nextAtom, nextTerm, nextElement, weightUnit, counted, string, rest}
+use Rattle.fields.specs.Fields.{space, byteAt, byte, bytes, lineEnd, lineEndOf, textEnd, natural, nextNatural, nextInteger, nextAtom, nextTerm, nextElement, weightUnit, counted, string, rest}
+use Rattle.aspif.specs.declared.lines.Header.{Header}
 use Rattle.aspif.specs.Statements.{Literal, positive, negated, Head, empty, single, choice, Premise, Body, normal, weights, num, str, comp, elem, unguarded, guard, defines, collects, states, Statement, rule, output, theory, comment, Line}
 
 -- ---- a literal and an integer are read as one number: 2 v, and 2 v + 1 after a minus
@@ -135,10 +137,10 @@ guardedLine = do
   pure (theory (states (f .atom) (f .name) (f .elements) (guard g u)))
 
 -- the rest of `10`, a space, and anything up to the line end
-unfoldable pub commentLine : Reader Statement
-commentLine = do
+unfoldable pub commentLine : (ends : LineEnd) → Reader Statement
+commentLine ends = do
   byte space
-  bs ← rest
+  bs ← rest ends
   pure (comment bs)
 
 -- ---- selectors: a number that the standard doesn't list is refused by 3
@@ -158,50 +160,55 @@ unfoldable pub theoryPart : Reader Statement
 theoryPart s at = andThen (nextNatural 3 6 s at) (λ k n. theoryOf k (at + 1) s n)
 
 -- a statement of the type k: 2, 3 and 5 to 8 are not carried
-unfoldable pub statementOf : (k place : ℕ) → Reader Statement
-statementOf k place =
+unfoldable pub statementOf : (ends : LineEnd) (k place : ℕ) → Reader Statement
+statementOf ends k place =
     pick (eqb k 1) ruleLine
     (pick (eqb k 4) outputLine
     (pick (eqb k 9) theoryPart
-    (pick (eqb k 10) commentLine (λ s at. fault 4 place))))
+    (pick (eqb k 10) (commentLine ends) (λ s at. fault 4 place))))
 
 -- ---- the text
 
 -- the rest of a line of the type k: what it says, and its end
-unfoldable pub lineOf : (k place : ℕ) → Reader Line
-lineOf k place = do
-  x ← statementOf k place
-  lineEnd
+unfoldable pub lineOf : (ends : LineEnd) (k place : ℕ) → Reader Line
+lineOf ends k place = do
+  x ← statementOf ends k place
+  lineEndOf ends
   pure (record { place = place; says = x })
 
 -- the end of the last line, and nothing after it
-unfoldable pub lastLine : Reader Unit
-lastLine = do
-  lineEnd
+unfoldable pub lastLine : (ends : LineEnd) → Reader Unit
+lastLine ends = do
+  lineEndOf ends
   textEnd
 
--- at most n lines, of which the line `0` is the last
-unfoldable pub lines : (n : ℕ) → Reader (List Line)
-lines zero s at = fault 3 at
-lines (suc n) s at =
+-- at most n lines behind the first, of which the line `0` is the last: all end as the first does
+unfoldable pub lines : (first : Header) (n : ℕ) → Reader (List Line)
+lines first zero s at = fault 3 at
+lines first (suc n) s at =
     andThen (natural 3 10 s at) (λ k m.
     (pick (eqb k 0)
-    (lastLine >> pure [])
-    (lineOf k at >>= (λ x. lines n >>= (λ xs. pure (x ∷ xs))))) s m)
+    (lastLine (first .ends) >> pure [])
+    (lineOf (first .ends) k at >>= (λ x. lines first n >>= (λ xs. pure (x ∷ xs))))) s m)
 
 -- the end of the first line: a tag, after a space, is not carried
-unfoldable pub noTag : Reader Unit
+unfoldable pub noTag : Reader LineEnd
 noTag s at = pick (eqb (byteAt s at) space) (fault 4 at) (lineEnd s at)
 
 -- `asp 1 0 0`
-unfoldable pub firstLine : Reader Unit
+abbrev pub opening : List ℕ
+opening = 97 ∷ 115 ∷ 112 ∷ 32 ∷ 49 ∷ 32 ∷ 48 ∷ 32 ∷ 48 ∷ []
+
+-- the first line, and how it ends
+unfoldable pub firstLine : Reader Header
 firstLine = do
-  bytes (97 ∷ 115 ∷ 112 ∷ 32 ∷ 49 ∷ 32 ∷ 48 ∷ 32 ∷ 48 ∷ [])
-  noTag
+  bytes opening
+  e ← noTag
+  pure (record { ends = e })
 
 -- a text has at most as many lines as bytes
 unfoldable pub plan : Reader (List Line)
-plan s at = andThen (firstLine s at) (λ u n. lines (length s) s n)
+plan s at = andThen (firstLine s at) (λ h n. lines h (length s) s n)
 
 abbrev pub answer : {A : Type 0} → Reading A → Answer A
 answer (found x n) = got x

@@ -2,4 +2,6 @@
 pub mod Statements
 pub mod Grammar
 pub mod Candidate
+pub mod Before
+pub mod Ends
 pub mod inner

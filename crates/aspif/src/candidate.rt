@@ -11,13 +11,13 @@ ghost use Rattle.faults.specs.Values.{number};
 ghost use Rattle.aspif.specs.Candidate.{atomAbove, ending, ascending, candidate};
 ghost use Rattle.aspif.specs.inner.Bitmap.{Blank};
 ghost use Rattle.aspif.specs.inner.Values.{asMarked, MarkedTo};
-use crate::lines::last_line;
 use faults::AtomNo;
 use faults::Kind;
 use faults::LAST_ATOM;
 use faults::Refusal;
 use fields::AtomField;
 use fields::Cursor;
+use fields::EndField;
 use fields::Passed;
 use fields::SPACE;
 use fields::WordField;
@@ -69,17 +69,23 @@ fn atom_above(c: Cursor, s: &[u8], low: AtomNo) -> AtomField
     AtomField::Got(AtomNo(v), n)
 }
 
-// A line end, and nothing after it.
+// A line end of either kind, and nothing after it.
 fn ending(c: Cursor, s: &[u8]) -> Passed
     ensures { λ r. ⌜ asPassed r ≡ ending (now (s .entry)) (c .at) ⌝ }
 {
-    let a = last_line(c, s);
-    let Passed::Got(_) = a else {
+    let a = c.line_end(s);
+    let EndField::Got(_, d) = a else {
         let r = a.refusal();
         let place = r.place;
         return Passed::Refused(seven(place));
     };
-    a
+    let b = d.text_end(s);
+    let Passed::Got(_) = b else {
+        let r = b.refusal();
+        let place = r.place;
+        return Passed::Refused(seven(place));
+    };
+    b
 }
 
 // Marks the atoms from the cursor on.
@@ -120,7 +126,7 @@ pub fn candidate(s: &[u8], x: &mut [u8]) -> Marked
 {
     let c = Cursor::start();
     let a = c.line_end(s);
-    let Passed::Got(_) = a else {
+    let EndField::Got(_, _) = a else {
         return ascending(c, s, x);
     };
     let b = ending(c, s);

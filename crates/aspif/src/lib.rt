@@ -10,7 +10,7 @@ ghost use Rattle.aspif.specs.inner.Words.{linesOf};
 ghost use Rattle.aspif.specs.inner.Values.{asTape, taped, tapedIf};
 use faults::Step;
 use fields::Cursor;
-use fields::Passed;
+use lines::HeaderField;
 use lines::first_line;
 use lines::lines;
 
@@ -32,9 +32,9 @@ pub fn read(s: &[u8], tape: &mut [u32]) -> Step
 {
     let start = Cursor::start();
     let a = first_line(start, s);
-    let Passed::Got(c) = a else {
+    let HeaderField::Got(first, c) = a else {
         return Step::Refused(a.refusal());
     };
     let n = s.len();
-    lines(c, s, n, tape)
+    lines(c, s, first, n, tape)
 }

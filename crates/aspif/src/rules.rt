@@ -19,6 +19,7 @@ use faults::LARGEST_BOUND;
 use faults::MOST_COUNT;
 use fields::Cursor;
 use fields::Item;
+use fields::LineEnd;
 use fields::Passed;
 use fields::SPACE;
 use fields::WordField;
@@ -122,9 +123,9 @@ pub fn output_line(c: Cursor, s: &[u8], tape: &mut [u32], out: usize) -> Wrote
 }
 
 // A comment: a space, and anything up to the line end.
-pub fn comment_line(c: Cursor, s: &[u8], tape: &mut [u32], out: usize) -> Wrote
+pub fn comment_line(c: Cursor, s: &[u8], ends: LineEnd, tape: &mut [u32], out: usize) -> Wrote
     requires { ⌜ (out < c .at) × (length (now s) ≤ length (now tape)) × (length (now s) ≤ longestRead) ⌝ }
-    ensures { λ r. ⌜ asWrote r (now (tape .exit)) ≡ onTape wordsOf (now (tape .entry)) out (commentLine (now (s .entry)) (c .at)) ⌝ }
+    ensures { λ r. ⌜ asWrote r (now (tape .exit)) ≡ onTape wordsOf (now (tape .entry)) out (commentLine ends (now (s .entry)) (c .at)) ⌝ }
     ensures { λ r. ⌜ roomy r ⌝ }
 {
     let a = c.byte(s, SPACE);
@@ -132,5 +133,5 @@ pub fn comment_line(c: Cursor, s: &[u8], tape: &mut [u32], out: usize) -> Wrote
         return Wrote::Refused(a.refusal());
     };
     let o1 = put(tape, out, COMMENT);
-    d.rest(s, tape, o1)
+    d.rest(s, ends, tape, o1)
 }

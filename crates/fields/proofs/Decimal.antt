@@ -8,9 +8,10 @@ use lib.Dec.{eqb, leb}
 use native.Mathlib.Omega.{arith}
 use lib.ListN.{length, getD, drop}
 use Rattle.basics.specs.Bools.{pick}
-use Rattle.fields.specs.Fields.{space, feed, isSeparator, upTo, zeroDigit, nineDigit, isEmpty, allDigits, isDigit, value, isNatural}
+use Rattle.fields.specs.Fields.{space, feed, return, byteAt, until, endsField, zeroDigit, nineDigit, isEmpty, allDigits, isDigit, value, isNatural}
 use Rattle.fields.specs.inner.Digits.{noDigit, digitsAt}
 use Rattle.fields.proofs.Runs.{run-out, run-stop, run-more}
+use Rattle.fields.proofs.LineEnds.{byte-here}
 
 -- ---- the digits at a place, one step of them
 
@@ -20,12 +21,12 @@ module _ (s : List ℕ) (i : ℕ) where
   digits-out h = run-out noDigit s i h
 
   pub digits-stop : i < length s → isDigit (getD s i 0) ≡ false → digitsAt s i ≡ []
-  unfolding digitsAt
-  digits-stop h t = run-stop noDigit s i h (ap not t)
+  unfolding digitsAt byteAt
+  digits-stop h t = run-stop noDigit s i h (rw (byte-here s i) (ap not t))
 
   pub digits-more : i < length s → isDigit (getD s i 0) ≡ true → digitsAt s i ≡ getD s i 0 ∷ digitsAt s (i + 1)
-  unfolding digitsAt
-  digits-more h t = run-more noDigit s i h (ap not t)
+  unfolding digitsAt byteAt
+  digits-more h t = run-more noDigit s i h (rw (byte-here s i) (ap not t))
 
 -- ---- their value
 
@@ -61,34 +62,35 @@ digit-from b h = go (leb zeroDigit b) refl h
     go false q e = let z : _≡_ {A = ℕ} 0 1 = (cc) in absurd (omega arith)
 
 -- a digit ends no field
-digit-within : (b : ℕ) → isDigit b ≡ true → isSeparator b ≡ false
-digit-within b h = let l = digit-from b h in simp (ne-eqb b space (omega arith), ne-eqb b feed (omega arith))
+pub digit-within : (b : ℕ) (bs : List ℕ) → isDigit b ≡ true → endsField (b ∷ bs) ≡ false
+unfolding byteAt
+digit-within b bs h = let l = digit-from b h in simp (ne-eqb b space (omega arith), ne-eqb b feed (omega arith), ne-eqb b return (omega arith))
 
 -- a field is all digits exactly if it ends where its first digits do
-pub digits-end : (l : List ℕ) → isEmpty (upTo isSeparator (drop (length (upTo noDigit l)) l)) ≡ allDigits (upTo isSeparator l)
-unfolding upTo allDigits
+pub digits-end : (l : List ℕ) → isEmpty (until endsField (drop (length (until noDigit l)) l)) ≡ allDigits (until endsField l)
+unfolding until allDigits byteAt
 digits-end [] = refl
-digits-end (b ∷ bs) = go (isDigit b) refl (isSeparator b) refl (digits-end bs)
+digits-end (b ∷ bs) = go (isDigit b) refl (endsField (b ∷ bs)) refl (digits-end bs)
   where
-    go : (d : Bool) → isDigit b ≡ d → (t : Bool) → isSeparator b ≡ t
-        → isEmpty (upTo isSeparator (drop (length (upTo noDigit bs)) bs)) ≡ allDigits (upTo isSeparator bs)
-        → isEmpty (upTo isSeparator (drop (length (pick (not d) [] (b ∷ upTo noDigit bs))) (b ∷ bs))) ≡ allDigits (pick t [] (b ∷ upTo isSeparator bs))
-    go true p true q i = let e = digit-within b p in let z : _≡_ {A = ℕ} 0 1 = (cc) in absurd (omega arith)
+    go : (d : Bool) → isDigit b ≡ d → (t : Bool) → endsField (b ∷ bs) ≡ t
+        → isEmpty (until endsField (drop (length (until noDigit bs)) bs)) ≡ allDigits (until endsField bs)
+        → isEmpty (until endsField (drop (length (pick (not d) [] (b ∷ until noDigit bs))) (b ∷ bs))) ≡ allDigits (pick t [] (b ∷ until endsField bs))
+    go true p true q i = let e = digit-within b bs p in let z : _≡_ {A = ℕ} 0 1 = (cc) in absurd (omega arith)
     go true p false q i = rw p i
     go false p true q i = rw q
-    go false p false q i = rw (p, q)
+    go false p false q i = rw (q, p)
 
 -- and then it is these digits
-pub digits-all : (l : List ℕ) → allDigits (upTo isSeparator l) ≡ true → upTo isSeparator l ≡ upTo noDigit l
-unfolding upTo allDigits
+pub digits-all : (l : List ℕ) → allDigits (until endsField l) ≡ true → until endsField l ≡ until noDigit l
+unfolding until allDigits byteAt
 digits-all [] h = refl
-digits-all (b ∷ bs) h = go (isDigit b) refl (isSeparator b) refl (digits-all bs) h
+digits-all (b ∷ bs) h = go (isDigit b) refl (endsField (b ∷ bs)) refl (digits-all bs) h
   where
-    go : (d : Bool) → isDigit b ≡ d → (t : Bool) → isSeparator b ≡ t
-        → (allDigits (upTo isSeparator bs) ≡ true → upTo isSeparator bs ≡ upTo noDigit bs)
-        → allDigits (pick t [] (b ∷ upTo isSeparator bs)) ≡ true → pick t [] (b ∷ upTo isSeparator bs) ≡ pick (not d) [] (b ∷ upTo noDigit bs)
-    go true p true q i h = let e = digit-within b p in let z : _≡_ {A = ℕ} 0 1 = (cc) in absurd (omega arith)
-    go true p false q i h = ap {B = List ℕ} (λ r. b ∷ r) (i (ap (λ t. t && allDigits (upTo isSeparator bs)) (sym p) ∙ h))
+    go : (d : Bool) → isDigit b ≡ d → (t : Bool) → endsField (b ∷ bs) ≡ t
+        → (allDigits (until endsField bs) ≡ true → until endsField bs ≡ until noDigit bs)
+        → allDigits (pick t [] (b ∷ until endsField bs)) ≡ true → pick t [] (b ∷ until endsField bs) ≡ pick (not d) [] (b ∷ until noDigit bs)
+    go true p true q i h = let e = digit-within b bs p in let z : _≡_ {A = ℕ} 0 1 = (cc) in absurd (omega arith)
+    go true p false q i h = ap {B = List ℕ} (λ r. b ∷ r) (i (ap (λ t. t && allDigits (until endsField bs)) (sym p) ∙ h))
     go false p true q i h = refl
     go false p false q i h = let z : _≡_ {A = ℕ} 0 1 = (cc) in absurd (omega arith)
 

@@ -1,24 +1,30 @@
 -- Where the fields of a line stand: behind the first space, one field after the other, and within the text. Assumes nothing.
 use Prim.Native.Nat.{ℕ, zero, suc, _+_, _-_, _≤_, _<_}
-use mathlib.Core.Path.{_≡_, refl}
+use mathlib.Core.Path.{_≡_, refl, ap}
 use mathlib.Core.List.{List}
 use native.Mathlib.Omega.{arith}
-use lib.ListN.{length, drop}
-use Rattle.fields.specs.Fields.{space, upTo, isEither, isSpace, behindSpace, fieldPlace}
-use Rattle.fields.proofs.Runs.{upTo-once}
+use borrow.Author.Tests.{ne-eqb}
+use lib.ListN.{length}
+use Rattle.fields.specs.Fields.{space, byteAt, isSpace, behindSpace, fieldPlace}
+use Rattle.fields.proofs.Runs.{run-out, run-stop, run-more}
+use Rattle.fields.proofs.LineEnds.{byte-here}
 
--- by the end of the bytes that are no space
-module _ (s : List ℕ) (at e : ℕ) (ends : e ≡ at + length (upTo (isEither space space) (drop at s))) where
-  end-is : e ≡ at + length (upTo isSpace (drop at s))
-  end-is = rw (upTo-once space (drop at s)) at ends
-
-  pub behind-there : e < length s → e + 1 ≡ behindSpace s at
+-- behind a place
+module _ (s : List ℕ) (at : ℕ) where
+  -- a space stands there
+  pub behind-here : at < length s → byteAt s at ≡ space → at + 1 ≡ behindSpace s at
   unfolding behindSpace
-  behind-there h = rw (← end-is) (omega arith)
+  behind-here h e = omega (arith, ap length (run-stop isSpace s at h (rw (byte-here s at, e))))
 
-  pub behind-none : length s ≤ e → length s ≡ behindSpace s at
+  -- another byte stands there
+  pub behind-next : at < length s → (byteAt s at ≡ space → ⊥) → behindSpace s (at + 1) ≡ behindSpace s at
   unfolding behindSpace
-  behind-none h = rw (← end-is) (omega arith)
+  behind-next h o = omega (arith, ap length (run-more isSpace s at h (rw (byte-here s at) (ne-eqb (byteAt s at) space o))))
+
+  -- nothing does
+  pub behind-end : length s ≤ at → length s ≡ behindSpace s at
+  unfolding behindSpace
+  behind-end h = omega (arith, ap length (run-out isSpace s at h))
 
 -- one field more
 pub field-next : (s : List ℕ) (k at : ℕ) → 0 < k → fieldPlace s (k - 1) (behindSpace s at) ≡ fieldPlace s k at

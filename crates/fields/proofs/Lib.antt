@@ -1,5 +1,6 @@
 -- General laws.
 pub mod Runs
+pub mod LineEnds
 pub mod Fieldwise
 pub mod Decimal
 pub mod Naturals

@@ -2,7 +2,7 @@
 use Prim.Native.Nat.{ℕ, zero, suc, _+_, _*_, _/_, _%_, _≤_, _<_}
 use mathlib.Core.Path.{_≡_, refl}
 use mathlib.Core.List.{List, [], _∷_}
-use mathlib.Core.Bool.{Bool, true, false, _||_}
+use mathlib.Core.Bool.{Bool, true, false, _||_, _&&_}
 use native.Mathlib.Omega.{arith}
 use borrow.Author.Tests.{eqb-true, eqb-false, leb-true, ltb-true, ltb-false}
 use lib.Dec.{eqb, leb, ltb, lit<}
@@ -11,9 +11,11 @@ use Rattle.basics.specs.Bools.{pick}
 use Rattle.basics.specs.Lists.{All}
 use Rattle.faults.specs.Limits.{lastAtom, lastTerm, lastElement, mostCount, largestWeight}
 use Rattle.fields.specs.Reading.{Reading, found, fault, Reader, andThen, placed}
-use Rattle.fields.specs.Fields.{space, feed, minusSign, byteAt, byte, bytes, lineEnd, textEnd, allPositive, field, isNatural, value, natural, next, nextNatural, naturalThen, negative, integer, nextInteger, literal, fromOne, atom, nextAtom, nextTerm, nextElement, weightUnit, nextWeight, premise, char, item, items, counted, string, restLength, rest}
+use Rattle.fields.specs.Fields.{space, feed, return, minusSign, byteAt, byte, bytes, lineEnd, sameEnd, lineEndOf, textEnd, allPositive, field, isNatural, value, natural, next, nextNatural, naturalThen, negative, integer, nextInteger, literal, fromOne, atom, nextAtom, nextTerm, nextElement, weightUnit, nextWeight, premise, char, item, items, counted, string, restLength, rest}
 use Rattle.fields.specs.inner.Kept.{IsAtom, Fits, ByteOf, IsWeight, ItemKept}
 use Rattle.fields.specs.declared.Item.{Item}
+use Rattle.fields.specs.declared.LineEnd.{LineEnd}
+use Rattle.fields.specs.declared.LineEnd.the-variants as by
 use Rattle.fields.proofs.Decimal.{natural-some}
 use Rattle.fields.proofs.Naturals.{field-within, there}
 use Rattle.fields.proofs.Words.{positive-more}
@@ -126,7 +128,19 @@ bytes-reads (b ∷ bs) h s at =
 
 pub lineEnd-reads : (s : List ℕ) (at : ℕ) → Reads Any s at 1 (lineEnd s at)
 unfolding lineEnd
-lineEnd-reads = byte-reads feed (lit< tt)
+lineEnd-reads s at = go (eqb (byteAt s at) feed) refl (eqb (byteAt s at) return) (eqb (byteAt s (at + 1)) feed) refl
+  where
+    go : (t : Bool) → eqb (byteAt s at) feed ≡ t → (u w : Bool) → eqb (byteAt s (at + 1)) feed ≡ w
+        → Reads Any s at 1 (pick t (found by.Feed (at + 1)) (pick (u && w) (found by.Return (at + 2)) (fault 3 at)))
+    go true p u w q = finds {n = at + 1} tt (omega arith) (λ l. omega (arith, there feed s at (lit< tt) (eqb-true (byteAt s at) feed p)))
+    go false p true true q = finds {n = at + 2} tt (omega arith) (λ l. omega (arith, there feed s (at + 1) (lit< tt) (eqb-true (byteAt s (at + 1)) feed q)))
+    go false p true false q = reads-fault by-grammar (omega arith)
+    go false p false w q = reads-fault by-grammar (omega arith)
+
+pub lineEndOf-reads : (e : LineEnd) (s : List ℕ) (at : ℕ) → Reads Any s at 1 (lineEndOf e s at)
+unfolding lineEndOf
+lineEndOf-reads e s at =
+    reads-so (λ v i. i) (omega arith) (reads-then (lineEnd-reads s at) (λ f n i l. reads-pick (sameEnd e f) (reads-found tt) (reads-fault by-grammar (omega arith))))
 
 pub textEnd-reads : (s : List ℕ) (at : ℕ) → Reads Any s at 0 (textEnd s at)
 unfolding textEnd
@@ -295,6 +309,6 @@ string-reads s at =
     reads-then {e = 0} (naturalThen-reads 5 mostCount space by-bounds (lit< tt) s at) (λ n m h l.
     reads-so (λ bs i. (i .0, omega arith)) (omega arith) (items-reads of.Char n s m))
 
-pub rest-reads : (s : List ℕ) (at : ℕ) → Reads (All (ByteOf s)) s at 0 (rest s at)
+pub rest-reads : (e : LineEnd) (s : List ℕ) (at : ℕ) → Reads (All (ByteOf s)) s at 0 (rest e s at)
 unfolding rest
-rest-reads s at = reads-so (λ bs h. h .0) (omega arith) (items-reads of.Char (restLength s at) s at)
+rest-reads e s at = reads-so (λ bs h. h .0) (omega arith) (items-reads of.Char (restLength e s at) s at)

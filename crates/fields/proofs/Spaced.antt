@@ -1,24 +1,23 @@
 -- What readers give, where it ends counted in: what is read behind a space stands in the next field of its line. Assumes nothing.
 use Prim.Native.Nat.{ℕ, zero, suc, _+_, _*_, _<_}
-use mathlib.Core.Path.{_≡_, refl, sym}
+use mathlib.Core.Path.{_≡_, refl, sym, ap, _∙_}
 use mathlib.Core.List.{List, [], _∷_}
-use mathlib.Core.Bool.{Bool, true, false}
+use mathlib.Core.Bool.{Bool, true, false, _||_}
 use mathlib.Core.Logic.{_⊎_, inl, inr}
 use native.Mathlib.Omega.{arith}
 use native.Mathlib.Nat.{add-zero}
 use native.Mathlib.Numerals.{add-one}
-use borrow.Author.Tests.{eqb-true, eqb-false, ne-eqb}
+use borrow.Author.Tests.{eqb-true, eqb-false}
 use lib.Dec.{eqb, leb, lit<}
 use lib.ListN.{length, drop}
-use lib.Seq.{getD-drop}
 use Rattle.basics.specs.Bools.{pick}
 use Rattle.faults.specs.Limits.{lastAtom, lastTerm}
 use Rattle.fields.specs.Reading.{Reading, found, fault, Reader, andThen, placed}
-use Rattle.fields.specs.Fields.{space, feed, minusSign, byteAt, byte, isSpace, field, behindSpace, fieldPlace, isNatural, value, natural, fromOne, next, nextNatural, negative, integer, nextInteger, atom, nextAtom, item, items, counted}
+use Rattle.fields.specs.Fields.{space, minusSign, byteAt, byte, until, endsLine, endsField, field, isSpace, behindSpace, fieldPlace, isNatural, value, natural, fromOne, next, nextNatural, negative, integer, nextInteger, atom, nextAtom, item, items, counted}
 use Rattle.fields.specs.declared.Item.{Item}
-use Rattle.fields.proofs.Runs.{run-more, first-space}
+use Rattle.fields.proofs.LineEnds.{byte-on}
 use Rattle.fields.proofs.Naturals.{there}
-use Rattle.fields.proofs.Fieldwise.{behind-there, field-last}
+use Rattle.fields.proofs.Fieldwise.{behind-next, field-last}
 
 -- what is found, and the place after it, have P
 pub data Gives {A : Type 0} (P : A → ℕ → Type 0) : Reading A → Type 0 where
@@ -70,12 +69,25 @@ follows-more : (s : List ℕ) (p k n : ℕ) → Follows s (fieldPlace s k p) 1 n
 unfolding fieldPlace
 follows-more s p k n h e = rw (add-one k, field-last s k p) (h e)
 
+-- the bytes of a field that a space ends are those before the first space
+first-space : (l : List ℕ) → byteAt l (length (until endsField l)) ≡ space → until isSpace l ≡ until endsField l
+unfolding until byteAt
+first-space [] e = refl
+first-space (b ∷ bs) e = go (eqb b space) refl (endsLine (b ∷ bs)) (first-space bs) e
+  where
+    go : (t : Bool) → eqb b space ≡ t → (u : Bool) → (byteAt bs (length (until endsField bs)) ≡ space → until isSpace bs ≡ until endsField bs)
+        → byteAt (b ∷ bs) (length (pick (t || u) [] (b ∷ until endsField bs))) ≡ space
+        → pick t [] (b ∷ until isSpace bs) ≡ pick (t || u) [] (b ∷ until endsField bs)
+    go true q u r e = refl
+    go false q true r e = absurd (eqb-false b space q e)
+    go false q false r e = ap {B = List ℕ} (λ l. b ∷ l) (r e)
+
 -- the next field stands behind the end of this one
 field-follows : (s : List ℕ) (at n : ℕ) → n ≡ at + length (field s at) → Follows s at 1 n
-unfolding fieldPlace field byteAt
+unfolding fieldPlace field behindSpace
 field-follows s at n d e =
-    let f = first-space space feed (drop at s) (rw (getD-drop at s (length (field s at)) 0, ← d) e) in
-    sym (behind-there s at n (rw f d) (there space s n (lit< tt) e))
+    let f = first-space (drop at s) (rw (byte-on s at (length (field s at)), ← d) e) in
+    rw f (omega (arith, there space s n (lit< tt) e))
 
 -- ---- readers of a field: the next one stands behind the end of what is found
 
@@ -95,8 +107,8 @@ fromOne-gives k most s at = gives-then (natural-gives 5 most s at) (λ v n h. gi
 
 -- a byte that is no space is passed over
 follows-behind : (s : List ℕ) (at n : ℕ) → at < length s → (byteAt s at ≡ space → ⊥) → Follows s (at + 1) 1 n → Follows s at 1 n
-unfolding fieldPlace behindSpace byteAt
-follows-behind s at n l o h e = rw (run-more isSpace s at l (ne-eqb _ _ o)) (omega (arith, h e))
+unfolding fieldPlace
+follows-behind s at n l o h e = sym (behind-next s at l o) ∙ h e
 
 -- w stands for a natural that is read at the place, or for a number below 0
 abbrev pub Whole : (high : ℕ) → List ℕ → (at w n : ℕ) → Type 0

@@ -10,15 +10,21 @@ use Rattle.faults.specs.Limits.{lastAtom, lastTerm, lastElement, mostCount, lar
 use Rattle.fields.specs.Reading.{found, fault, Reader, andThen, _>>=_, _>>_, pure, placed}
 use Rattle.fields.specs.declared.Item.{Item}
 use Rattle.fields.specs.declared.Item.the-variants as of
+use Rattle.fields.specs.declared.LineEnd.{LineEnd}
+use Rattle.fields.specs.declared.LineEnd.the-variants as by
 
 -- ---- bytes
 
 abbrev pub space : ℕ
 space = 32
 
--- the line end
+-- byte 10, which ends a line
 abbrev pub feed : ℕ
 feed = 10
+
+-- byte 13, which before byte 10 may be of the line end
+abbrev pub return : ℕ
+return = 13
 
 abbrev pub minusSign : ℕ
 minusSign = 45
@@ -44,10 +50,6 @@ bytes (b ∷ bs) = do
   byte b
   bytes bs
 
--- every line is ended by a line feed
-unfoldable pub lineEnd : Reader Unit
-lineEnd = byte feed
-
 -- nothing stands at the place or after it
 unfoldable pub textEnd : Reader Unit
 textEnd s at = pick (ltb at (length s)) (fault 3 at) (found tt at)
@@ -56,35 +58,77 @@ unfoldable pub allPositive : List ℕ → Bool
 allPositive [] = true
 allPositive (b ∷ bs) = ltb 0 b && allPositive bs
 
--- the bytes before the first that ends them, or all
-unfoldable pub upTo : (ℕ → Bool) → List ℕ → List ℕ
-upTo ends [] = []
-upTo ends (b ∷ bs) = pick (ends b) [] (b ∷ upTo ends bs)
+-- the bytes before the first place at which what follows stops them, or all
+unfoldable pub until : (stop : List ℕ → Bool) → List ℕ → List ℕ
+until stop [] = []
+until stop (b ∷ bs) = pick (stop (b ∷ bs)) [] (b ∷ until stop bs)
 
--- one of two bytes
-abbrev pub isEither : (x y : ℕ) → ℕ → Bool
-isEither x y b = eqb b x || eqb b y
+-- ---- line ends: byte 10 alone, or bytes 13 10
 
--- a space or a line end
-abbrev pub isSeparator : ℕ → Bool
-isSeparator = isEither space feed
+-- bytes 13 10 stand at the place
+abbrev pub returnFeed : List ℕ → ℕ → Bool
+returnFeed s at = eqb (byteAt s at) return && eqb (byteAt s (at + 1)) feed
 
--- no string and no comment holds these
-abbrev pub isForbidden : ℕ → Bool
-isForbidden = isEither 0 feed
+-- a line end of either kind stands first
+abbrev pub endsLine : List ℕ → Bool
+endsLine l = eqb (byteAt l 0) feed || returnFeed l 0
+
+-- where lines end in byte 10 alone, a line is over before it; where they end in 13 10, before these two as well
+abbrev pub breaks : LineEnd → List ℕ → Bool
+breaks by.Feed l = eqb (byteAt l 0) feed
+breaks by.Return l = endsLine l
+
+-- the byte b stands first, or the line is over
+abbrev pub breaksAt : (b : ℕ) → LineEnd → List ℕ → Bool
+breaksAt b ends l = eqb (byteAt l 0) b || breaks ends l
+
+-- the line end at the place, and which of the two it is
+unfoldable pub lineEnd : Reader LineEnd
+lineEnd s at =
+    pick (eqb (byteAt s at) feed) (found by.Feed (at + 1))
+    (pick (returnFeed s at) (found by.Return (at + 2)) (fault 3 at))
+
+abbrev pub sameEnd : LineEnd → LineEnd → Bool
+sameEnd by.Feed by.Feed = true
+sameEnd by.Feed by.Return = false
+sameEnd by.Return by.Feed = false
+sameEnd by.Return by.Return = true
+
+-- the line end of this kind; one of the other kind is refused at its first byte
+unfoldable pub lineEndOf : LineEnd → Reader Unit
+lineEndOf ends s at = andThen (lineEnd s at) (λ met n. pick (sameEnd ends met) (found tt n) (fault 3 at))
+
+-- the place of the first line end, or of the text's end
+abbrev pub firstEnd : List ℕ → ℕ
+firstEnd s = length (until endsLine s)
+
+-- how the lines of a text end: in 13 10 if its first byte 10 has a 13 before it, so that the first line end begins with 13
+unfoldable pub endsOf : List ℕ → LineEnd
+endsOf s = pick (eqb (byteAt s (firstEnd s)) return) by.Return by.Feed
+
+-- the part of a text from the place to before the end of its line, or of the text; nothing from a place beyond that
+unfoldable pub partFrom : List ℕ → (place : ℕ) → List ℕ
+partFrom s place = until (breaks (endsOf s)) (drop place s)
+
+-- ---- fields
+
+-- a space or a line end of either kind stands first
+abbrev pub endsField : List ℕ → Bool
+endsField l = eqb (byteAt l 0) space || endsLine l
 
 -- a field runs to the next space, line end or end of text
 unfoldable pub field : List ℕ → ℕ → List ℕ
-field s at = upTo isSeparator (drop at s)
+field s at = until endsField (drop at s)
 
 -- ---- where the fields of a line stand, one space apart
 
-abbrev pub isSpace : ℕ → Bool
-isSpace b = eqb b space
+-- a space stands first
+abbrev pub isSpace : List ℕ → Bool
+isSpace l = eqb (byteAt l 0) space
 
 -- the place behind the first space at a place or after it; the text's end if there is none
 unfoldable pub behindSpace : List ℕ → ℕ → ℕ
-behindSpace s at = min (at + length (upTo isSpace (drop at s)) + 1) (length s)
+behindSpace s at = min (at + length (until isSpace (drop at s)) + 1) (length s)
 
 -- the place of field k, where field 0 stands at the place given
 unfoldable pub fieldPlace : List ℕ → (k at : ℕ) → ℕ
@@ -194,7 +238,11 @@ premise = do
 
 -- ---- counted lists and strings
 
--- a byte of a string; past the end stands 0
+-- no string and no comment holds these; past the end stands 0
+abbrev pub isForbidden : ℕ → Bool
+isForbidden b = eqb b 0 || eqb b feed
+
+-- a byte of a string
 unfoldable pub char : Reader ℕ
 char s at = pick (isForbidden (byteAt s at)) (fault 3 at) (found (byteAt s at) (at + 1))
 
@@ -227,10 +275,10 @@ string = do
   n ← naturalThen 5 mostCount space
   items of.Char n
 
--- how many bytes stand before the next byte that is forbidden, or the end
-unfoldable pub restLength : List ℕ → ℕ → ℕ
-restLength s at = length (upTo isForbidden (drop at s))
+-- how many bytes stand before the next byte 0 or the end of the line
+unfoldable pub restLength : (ends : LineEnd) → List ℕ → ℕ → ℕ
+restLength ends s at = length (until (breaksAt 0 ends) (drop at s))
 
--- anything up to the line end
-unfoldable pub rest : Reader (List ℕ)
-rest s at = items of.Char (restLength s at) s at
+-- anything up to the line end, in a text whose lines end in this way
+unfoldable pub rest : (ends : LineEnd) → Reader (List ℕ)
+rest ends s at = items of.Char (restLength ends s at) s at

@@ -1,14 +1,16 @@
 // Bytes and digits of a text.
 ghost use mathlib.Core.Path.{_≡_};
 ghost use Prim.Native.Nat.{_+_, _≤_, min};
-ghost use lib.ListN.{length, drop};
+ghost use lib.ListN.{length};
 ghost use Rattle.faults.specs.Limits.{largestBound};
-ghost use Rattle.fields.specs.Fields.{byteAt, upTo, isEither, field, isDigit, isEmpty, isNatural, value};
+ghost use Rattle.fields.specs.Fields.{byteAt, field, isDigit, isEmpty, isNatural, value};
 ghost use Rattle.fields.specs.inner.Digits.{digitsAt};
-use crate::FEED;
+use crate::LineEnd;
 use crate::NINE_DIGIT;
 use crate::SPACE;
 use crate::ZERO_DIGIT;
+use crate::ends::breaks_at;
+use crate::ends::run_end;
 
 // The value of digits, or one more than the most that is asked where it is beyond that, and where they end.
 pub(crate) struct Digits {
@@ -23,29 +25,11 @@ pub(crate) fn peek(s: &[u8], at: usize) -> u8
     if at < s.len() { s[at] } else { 0 }
 }
 
-// Where the bytes from `at` on that are neither `x` nor `y` end.
-pub fn run_end(s: &[u8], at: usize, x: u8, y: u8) -> usize
-    ensures { λ r. ⌜ r ≡ at + length (upTo (isEither x y) (drop at (now (s .entry)))) ⌝ }
-{
-    let mut i = at;
-    while i < s.len() {
-        let b = s[i];
-        if b == x {
-            return i;
-        }
-        if b == y {
-            return i;
-        }
-        i += 1;
-    }
-    i
-}
-
 // Where the field that starts at `at` ends.
 pub(crate) fn field_end(s: &[u8], at: usize) -> usize
     ensures { λ r. ⌜ r ≡ at + length (field (now (s .entry)) at) ⌝ }
 {
-    run_end(s, at, SPACE, FEED)
+    run_end(s, at, SPACE, LineEnd::Return)
 }
 
 // Whether a field ends at `at`: a space, a line end or the end of the text is there.
@@ -55,11 +39,7 @@ fn ends_field(s: &[u8], at: usize) -> bool
     if s.len() <= at {
         return true;
     }
-    let b = s[at];
-    if b == SPACE {
-        return true;
-    }
-    b == FEED
+    breaks_at(s, at, SPACE, LineEnd::Return)
 }
 
 // Whether `b` is a digit.
@@ -115,12 +95,14 @@ pub(crate) fn is_natural(s: &[u8], at: usize, end: usize) -> bool
     requires { ⌜ end ≡ at + length (digitsAt (now s) at) ⌝ }
     ensures { λ r. ⌜ r ≡ isNatural (field (now (s .entry)) at) ⌝ }
 {
-    if ends_field(s, at) {
+    if end <= at {
         return false;
     }
-    if peek(s, at) == ZERO_DIGIT {
-        let from = at + 1;
-        return ends_field(s, from);
+    let second = at + 1;
+    if second < end {
+        if peek(s, at) == ZERO_DIGIT {
+            return false;
+        }
     }
     ends_field(s, end)
 }

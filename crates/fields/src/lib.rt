@@ -4,7 +4,7 @@ ghost use mathlib.Core.Bool.{false};
 ghost use mathlib.Core.List.{List};
 ghost use Prim.Native.Nat.{ℕ};
 ghost use Rattle.fields.specs.Reading.{isFound};
-ghost use Rattle.fields.specs.inner.Values.{faultOf, asPassed, asWord, asAtom, asTerm, asElement, asWrote};
+ghost use Rattle.fields.specs.inner.Values.{faultOf, asPassed, asEnd, asWord, asAtom, asTerm, asElement, asWrote};
 use faults::AtomNo;
 use faults::ElementNo;
 use faults::Kind;
@@ -12,18 +12,23 @@ use faults::Refusal;
 use faults::TermNo;
 
 mod digits;
+mod ends;
 mod number;
 mod places;
 mod tape;
 
-pub use crate::digits::run_end;
+pub use crate::ends::ends_of;
+pub use crate::ends::part_end;
 pub use crate::places::field_place;
 
 // The space.
 pub const SPACE: u8 = 32;
 
-// The line end.
+// Byte 10, which ends a line.
 pub const FEED: u8 = 10;
+
+// Byte 13, which before byte 10 may be of the line end.
+const RETURN: u8 = 13;
 
 // The minus sign.
 const MINUS_SIGN: u8 = 45;
@@ -42,9 +47,21 @@ pub struct Cursor {
     pub at: usize,
 }
 
+// How a line ends: in byte 10 alone, or in bytes 13 10.
+pub enum LineEnd {
+    Feed,
+    Return,
+}
+
 // What reading finds that has no value.
 pub enum Passed {
     Got(Cursor),
+    Refused(Refusal),
+}
+
+// What reading a line end finds: which one it is.
+pub enum EndField {
+    Got(LineEnd, Cursor),
     Refused(Refusal),
 }
 
@@ -100,6 +117,22 @@ impl Passed {
                 place: c.at,
             },
             Passed::Refused(r) => r,
+        }
+    }
+}
+
+impl EndField {
+    // The refusal of an answer that is one.
+    pub fn refusal(self) -> Refusal
+        requires { ⌜ isFound (asEnd self) ≡ false ⌝ }
+        ensures { λ r. ⌜ asEnd self ≡ faultOf r ⌝ }
+    {
+        match self {
+            EndField::Got(_, c) => Refusal {
+                kind: Kind::Grammar,
+                place: c.at,
+            },
+            EndField::Refused(r) => r,
         }
     }
 }

@@ -5,12 +5,14 @@ ghost use mathlib.Core.Bool.{true};
 ghost use lib.ListN.{length};
 ghost use Rattle.faults.specs.Limits.{largestNumber, largestBound};
 ghost use Rattle.faults.specs.Values.{number};
-ghost use Rattle.fields.specs.Fields.{allPositive, byteAt, byte, bytes, lineEnd, textEnd, natural, nextNatural, naturalThen, field, negative, integer, nextInteger, literal, fromOne, atom, nextAtom, nextTerm, nextElement, nextWeight, next};
-ghost use Rattle.fields.specs.inner.Values.{asPassed, asWord, asAtom, asTerm, asElement};
+ghost use Rattle.fields.specs.Fields.{allPositive, byteAt, byte, bytes, lineEnd, lineEndOf, textEnd, natural, nextNatural, naturalThen, field, negative, integer, nextInteger, literal, fromOne, atom, nextAtom, nextTerm, nextElement, nextWeight, next};
+ghost use Rattle.fields.specs.inner.Values.{asPassed, asEnd, asWord, asAtom, asTerm, asElement};
 use crate::AtomField;
 use crate::Cursor;
 use crate::ElementField;
+use crate::EndField;
 use crate::FEED;
+use crate::LineEnd;
 use crate::MINUS_SIGN;
 use crate::Passed;
 use crate::SPACE;
@@ -20,6 +22,8 @@ use crate::digits::digits_at;
 use crate::digits::field_end;
 use crate::digits::is_natural;
 use crate::digits::peek;
+use crate::ends::return_feed;
+use crate::ends::same_end;
 use faults::AtomNo;
 use faults::ElementNo;
 use faults::Kind;
@@ -98,11 +102,39 @@ impl Cursor {
         Passed::Got(c)
     }
 
-    // The end of a line.
-    pub fn line_end(self, s: &[u8]) -> Passed
-        ensures { λ r. ⌜ asPassed r ≡ lineEnd (now (s .entry)) (self .at) ⌝ }
+    // The line end at the cursor, and which of the two it is.
+    pub fn line_end(self, s: &[u8]) -> EndField
+        ensures { λ r. ⌜ asEnd r ≡ lineEnd (now (s .entry)) (self .at) ⌝ }
     {
-        self.byte(s, FEED)
+        let at = self.at;
+        if peek(s, at) == FEED {
+            return EndField::Got(LineEnd::Feed, Cursor { at: at + 1 });
+        }
+        if return_feed(s, at) {
+            return EndField::Got(LineEnd::Return, Cursor { at: at + 2 });
+        }
+        EndField::Refused(Refusal {
+            kind: Kind::Grammar,
+            place: at,
+        })
+    }
+
+    // The line end at the cursor, which must be as `ends` says.
+    pub fn line_end_of(self, s: &[u8], ends: LineEnd) -> Passed
+        ensures { λ r. ⌜ asPassed r ≡ lineEndOf ends (now (s .entry)) (self .at) ⌝ }
+    {
+        let a = self.line_end(s);
+        let EndField::Got(met, c) = a else {
+            return Passed::Refused(a.refusal());
+        };
+        if same_end(ends, met) {
+            return Passed::Got(c);
+        }
+        let at = self.at;
+        Passed::Refused(Refusal {
+            kind: Kind::Grammar,
+            place: at,
+        })
     }
 
     // The end of the text.

@@ -2,15 +2,17 @@
 ghost use mathlib.Core.Path.{_≡_};
 ghost use Rattle.fields.specs.Fields.{behindSpace, fieldPlace};
 use crate::SPACE;
-use crate::digits::run_end;
 
 // The place behind the first space at `at` or after it; the text's end if there is none.
 fn behind_space(s: &[u8], at: usize) -> usize
     ensures { λ r. ⌜ r ≡ behindSpace (now (s .entry)) at ⌝ }
 {
-    let end = run_end(s, at, SPACE, SPACE);
-    if end < s.len() {
-        return end + 1;
+    let mut i = at;
+    while i < s.len() {
+        if s[i] == SPACE {
+            return i + 1;
+        }
+        i += 1;
     }
     s.len()
 }

@@ -12,11 +12,12 @@ use crate::AtomField;
 use crate::Cursor;
 use crate::FEED;
 use crate::Item;
+use crate::LineEnd;
 use crate::WEIGHT_UNIT;
 use crate::WordField;
 use crate::Wrote;
 use crate::digits::peek;
-use crate::digits::run_end;
+use crate::ends::run_end;
 use faults::Kind;
 use faults::LAST_ELEMENT;
 use faults::LAST_TERM;
@@ -141,15 +142,15 @@ impl Cursor {
         c.listed(s, what, n, tape, out)
     }
 
-    // The bytes up to the line end behind their count, as words from `out` on.
-    pub fn rest(self, s: &[u8], tape: &mut [u32], out: usize) -> Wrote
+    // The bytes up to the line end, which is as `ends` says, behind their count, as words from `out` on.
+    pub fn rest(self, s: &[u8], ends: LineEnd, tape: &mut [u32], out: usize) -> Wrote
         requires { ⌜ (out < self .at) × (self .at ≤ length (now s)) × (length (now s) ≤ length (now tape)) × (length (now s) ≤ longestRead) ⌝ }
-        ensures { λ r. ⌜ asWrote r (now (tape .exit)) ≡ onTape listed (now (tape .entry)) out (rest (now (s .entry)) (self .at)) ⌝ }
+        ensures { λ r. ⌜ asWrote r (now (tape .exit)) ≡ onTape listed (now (tape .entry)) out (rest ends (now (s .entry)) (self .at)) ⌝ }
         ensures { λ r. ⌜ roomy r ⌝ }
     {
         let at = self.at;
-        let end = run_end(s, at, 0, FEED);
-        let size = end - at;
+        let to = run_end(s, at, 0, ends);
+        let size = to - at;
         let n = size as u32;
         self.listed(s, Item::Char, n, tape, out)
     }

@@ -6,7 +6,7 @@ use mathlib.Core.List.{List, [], _∷_, _++_}
 use lib.Dec.{lit≤}
 use lib.IntN.{pos}
 use Rattle.faults.specs.Answer.{got}
-use Rattle.fields.specs.Fields.{byteAt, byte, bytes, lineEnd, textEnd, upTo, field, allDigits, isNatural, value, natural, nextNatural, negative, integer, nextInteger, literal, fromOne, atom, nextAtom, nextTerm, nextElement, char, item, items, counted, naturalThen, string}
+use Rattle.fields.specs.Fields.{byteAt, byte, bytes, lineEnd, lineEndOf, textEnd, until, field, allDigits, isNatural, value, natural, nextNatural, negative, integer, nextInteger, literal, fromOne, atom, nextAtom, nextTerm, nextElement, char, item, items, counted, naturalThen, string}
 use Rattle.aspif.specs.Statements.{positive, single, choice, normal, num, comp, elem, guard, defines, collects, states, Statement, rule, theory, Line}
 use Rattle.aspif.specs.Grammar.{lineOf, heads, normalBody, literals, body, ruleLine, numericLine, stringLine, compoundLine, elementLine, front, guardedLine, theoryOf, theoryPart, statementOf, lastLine, lines, noTag, firstLine, plan, statements}
 use Rattle.aspif.specs.Candidate.{atomAbove, ending, ascending, candidateLine, candidate}
@@ -81,7 +81,7 @@ pub record Texts : Type 0 where
 
 -- each is computed from its bytes
 pub texts : Texts
-unfolding textP3 textP7 textP45 textQ3 byteAt byte bytes lineEnd textEnd upTo field allDigits isNatural value natural nextNatural negative integer nextInteger literal fromOne atom nextAtom nextTerm nextElement char item items counted naturalThen string lineOf heads normalBody literals body ruleLine numericLine stringLine compoundLine elementLine front guardedLine theoryOf theoryPart statementOf lastLine lines noTag firstLine plan statements
+unfolding textP3 textP7 textP45 textQ3 byteAt byte bytes lineEnd lineEndOf textEnd until field allDigits isNatural value natural nextNatural negative integer nextInteger literal fromOne atom nextAtom nextTerm nextElement char item items counted naturalThen string lineOf heads normalBody literals body ruleLine numericLine stringLine compoundLine elementLine front guardedLine theoryOf theoryPart statementOf lastLine lines noTag firstLine plan statements
 texts = record {
   p3 = record { short = lit≤ tt; lines = refl; stated = differences-with 5 179 3 242 };
   p7 = record { short = lit≤ tt; lines = refl; stated = differences-with 5 179 7 242 };
@@ -97,5 +97,5 @@ pub record Candidates : Type 0 where
 
 -- each is computed
 pub candidates : Candidates
-unfolding candidate candidateLine ascending ending lastLine lineEnd textEnd atomAbove natural field upTo isNatural allDigits value byteAt byte
+unfolding candidate candidateLine ascending ending lineEnd textEnd atomAbove natural field until isNatural allDigits value byteAt
 candidates = record { one-two-three-four = refl; one-three-four = refl; two-three-four = refl }

@@ -12,7 +12,7 @@ use Rattle.aspif.proofs.Fronts.{candidate-front}
 use Rattle.judge.specs.Plan.{Asked, Rooms, legible, pair, readable}
 use Rattle.judge.specs.Fronts.{fronts, Fronts}
 
--- a text is too long in both forms or is not cut; a candidate is read from its first 20,481 bytes
+-- a text is too long in both forms or is not cut; a candidate is read from its first 20,482 bytes
 readable-front : (n : ℕ) (a : Asked) (b : Rooms) → longestText < n → readable (fronts n a) b ≡ readable a b
 unfolding readable legible pair
 readable-front n a b h = go (ltb longestText (length (a .text))) refl

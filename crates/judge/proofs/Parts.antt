@@ -6,35 +6,36 @@ use mathlib.Core.List.{List, []}
 use native.Mathlib.Omega.{arith}
 use borrow.Author.Tests.{eqb-true}
 use lib.Dec.{eqb}
-use lib.ListN.{length, take, drop, length-drop}
+use lib.ListN.{length, take, drop}
 use lib.Seq.{drop-length, take-nil}
 use denote.Ref.{RefT, now}
-use Rattle.fields.proofs.Runs.{run-out, upTo-length, upTo-take, upTo-once}
-use Rattle.fields.specs.Fields.{upTo, isEither}
-use Rattle.judge.specs.Shown.{isLineEnd, partFrom, inText, shown, Part, IsShown}
+use Rattle.fields.specs.declared.LineEnd.{LineEnd}
+use Rattle.fields.specs.Fields.{until, breaks, endsOf, partFrom}
+use Rattle.fields.proofs.Runs.{run-out, until-take, until-within}
+use Rattle.judge.specs.Shown.{inText, shown, Part, IsShown}
 
 module _ (s : List ℕ) (i : ℕ) where
   -- beyond the end there is nothing
   pub part-out : length s ≤ i → partFrom s i ≡ []
   unfolding partFrom
-  part-out h = run-out isLineEnd s i h
+  part-out h = run-out (breaks (endsOf s)) s i h
 
-  -- a part ends before byte 10
-  pub part-end : {e : ℕ} → e ≡ i + length (upTo (isEither 10 10) (drop i s)) → e ≡ i + length (partFrom s i)
+  -- a part ends where lines of the text's kind do
+  pub part-end : {k : LineEnd} {e : ℕ} → k ≡ endsOf s → e ≡ i + length (until (breaks k) (drop i s)) → e ≡ i + length (partFrom s i)
   unfolding partFrom
-  part-end p = rw (upTo-once 10 (drop i s)) at p
+  part-end h p = rw h at p
 
   -- a part ends within the list
   pub part-within : i ≤ length s → i + length (partFrom s i) ≤ length s
   unfolding partFrom
-  part-within h = omega (arith, upTo-length isLineEnd (drop i s), length-drop i s)
+  part-within h = until-within (breaks (endsOf s)) s i h
 
   -- a part is what stands between its places
   pub part-between : (e : ℕ) → e ≡ i + length (partFrom s i) → take (e - i) (drop i s) ≡ partFrom s i
   unfolding partFrom
   part-between e p =
       let d : e - i ≡ length (partFrom s i) = omega arith in
-      rw d (upTo-take isLineEnd (drop i s))
+      rw d (until-take (breaks (endsOf s)) (drop i s))
 
 -- what stands behind the end is nothing
 pub behind-end : (s : List ℕ) → take (length s - length s) (drop (length s) s) ≡ []

@@ -7,7 +7,7 @@ use lib.IntN.{pos, negℤ}
 use lib.ListN.{length}
 use Rattle.faults.specs.Limits.{longestText}
 use Rattle.faults.specs.Answer.{got}
-use Rattle.fields.specs.Fields.{byteAt, byte, bytes, lineEnd, textEnd, upTo, field, allDigits, isNatural, value, natural, nextNatural, negative, integer, nextInteger, literal, fromOne, atom, nextAtom, nextTerm, nextElement, char, item, items, counted, naturalThen, string}
+use Rattle.fields.specs.Fields.{byteAt, byte, bytes, lineEnd, lineEndOf, textEnd, until, field, allDigits, isNatural, value, natural, nextNatural, negative, integer, nextInteger, literal, fromOne, atom, nextAtom, nextTerm, nextElement, char, item, items, counted, naturalThen, string}
 use Rattle.aspif.specs.Statements.{positive, negated, single, choice, normal, num, str, comp, elem, guard, defines, collects, states, Statement, rule, theory, Line}
 use Rattle.aspif.specs.Grammar.{lineOf, heads, normalBody, literals, body, ruleLine, numericLine, stringLine, compoundLine, elementLine, front, guardedLine, theoryOf, theoryPart, statementOf, lastLine, lines, noTag, firstLine, plan, statements}
 use Rattle.aspif.specs.Candidate.{atomAbove, ending, ascending, candidateLine, candidate}
@@ -32,7 +32,7 @@ pub record Candidates : Type 0 where
 
 -- each is computed
 pub candidates : Candidates
-unfolding candidate candidateLine ascending ending lastLine lineEnd textEnd atomAbove natural field upTo isNatural allDigits value byteAt byte
+unfolding candidate candidateLine ascending ending lineEnd textEnd atomAbove natural field until isNatural allDigits value byteAt
 candidates = record { none = refl; one = refl; three = refl; one-two = refl; one-three = refl; two-three = refl; one-two-three = refl }
 
 -- ---- texts
@@ -124,7 +124,7 @@ pub record Texts : Type 0 where
 
 -- each is computed from its bytes
 pub texts : Texts
-unfolding planP planQ planTight planExternal planLoop planOdd byteAt byte bytes lineEnd textEnd upTo field allDigits isNatural value natural nextNatural negative integer nextInteger literal fromOne atom nextAtom nextTerm nextElement char item items counted naturalThen string lineOf heads normalBody literals body ruleLine numericLine stringLine compoundLine elementLine front guardedLine theoryOf theoryPart statementOf lastLine lines noTag firstLine plan statements
+unfolding planP planQ planTight planExternal planLoop planOdd byteAt byte bytes lineEnd lineEndOf textEnd until field allDigits isNatural value natural nextNatural negative integer nextInteger literal fromOne atom nextAtom nextTerm nextElement char item items counted naturalThen string lineOf heads normalBody literals body ruleLine numericLine stringLine compoundLine elementLine front guardedLine theoryOf theoryPart statementOf lastLine lines noTag firstLine plan statements
 texts = record {
   p = record { short = lit≤ tt; lines = refl; stated = differences-P 40 5 117 167 };
   q = record { short = lit≤ tt; lines = refl; stated = differences-P 40 45 117 168 };

@@ -4,19 +4,11 @@ use mathlib.Core.Path.{_≡_}
 use mathlib.Core.Bool.{Bool, true}
 use mathlib.Core.List.{List, [], _∷_}
 use lib.Dec.{eqb}
-use lib.ListN.{length, drop}
+use lib.ListN.{length}
 use denote.Ref.{RefT, ptr, now}
 use Rattle.basics.specs.Bools.{pick}
 use Rattle.basics.specs.Lists.{among}
-use Rattle.fields.specs.Fields.{feed, upTo}
-
--- byte 10
-abbrev pub isLineEnd : ℕ → Bool
-isLineEnd b = eqb b feed
-
--- the part from the place to before the first byte 10 at or after it, or to the end; nothing from a place beyond the end
-unfoldable pub partFrom : List ℕ → (place : ℕ) → List ℕ
-partFrom s place = upTo isLineEnd (drop place s)
+use Rattle.fields.specs.Fields.{partFrom}
 
 -- the numbers whose place is in the text
 abbrev pub textNumbers : List ℕ

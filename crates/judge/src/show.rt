@@ -5,8 +5,8 @@ ghost use Rattle.faults.specs.Values.{number};
 ghost use Rattle.judge.specs.Shown.{inText, Part, IsShown};
 use faults::Kind;
 use faults::Refusal;
-use fields::FEED;
-use fields::run_end;
+use fields::ends_of;
+use fields::part_end;
 
 // Whether the place of a refusal is in the text.
 fn in_text(kind: Kind) -> bool
@@ -43,7 +43,7 @@ fn part_from(s: &[u8], place: usize) -> &[u8]
     if n <= place {
         return &s[n..n];
     }
-    let end = run_end(s, place, FEED, FEED);
+    let end = part_end(s, place, ends_of(s));
     &s[place..end]
 }
 

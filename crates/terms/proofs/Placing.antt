@@ -13,7 +13,9 @@ use Rattle.basics.specs.Lists.{All}
 use Rattle.faults.specs.Answer.{got}
 use Rattle.faults.specs.Limits.{lastTerm, mostCount}
 use Rattle.fields.specs.Reading.{Reading}
-use Rattle.fields.specs.Fields.{space, byte, fieldPlace, nextNatural, nextTerm, nextElement, nextInteger, item, counted, string, rest, lineEnd}
+use Rattle.fields.specs.Fields.{space, byte, fieldPlace, nextNatural, nextTerm, nextElement, nextInteger, item, counted, string, rest, lineEndOf}
+use Rattle.fields.specs.declared.LineEnd.{LineEnd}
+use Rattle.aspif.specs.declared.lines.Header.{Header}
 use Rattle.aspif.specs.Statements.{comp, num, str, elem, Theory, defines, collects, states, Statement, Line, theoryIn}
 use Rattle.aspif.specs.Grammar.{integerOf, heads, literals, body, ruleLine, outputLine, numericLine, stringLine, compoundLine, elementLine, front, theoryLine, guardedLine, commentLine, theoryOf, theoryPart, statementOf, lineOf, lastLine, lines, firstLine, plan, answer, statements}
 use Rattle.terms.specs.Reasons.{functorUse}
@@ -131,22 +133,22 @@ module _ (s : List ℕ) (p : ℕ) where
   unfolding outputLine
   output-lays at = gives-after (string s at) (λ bs n. gives-after (literals s n) (λ ls m. gives tt))
 
-  comment-lays : (at : ℕ) → Lays (commentLine s at)
+  comment-lays : (e : LineEnd) (at : ℕ) → Lays (commentLine e s at)
   unfolding commentLine
-  comment-lays at = gives-after (byte space s at) (λ u n. gives-after (rest s n) (λ bs m. gives tt))
+  comment-lays e at = gives-after (byte space s at) (λ u n. gives-after (rest e s n) (λ bs m. gives tt))
 
   module _ (at : ℕ) (h : Follows s p 1 at) where
     theoryPart-lays : Lays (theoryPart s at)
     unfolding theoryPart
     theoryPart-lays = gives-then (nextNatural-gives s p 1 at h 3 6) (λ k n g. theoryOf-lays n (g .1) k (at + 1))
 
-    statement-lays : (k place : ℕ) → Lays (statementOf k place s at)
+    statement-lays : (e : LineEnd) (k place : ℕ) → Lays (statementOf e k place s at)
     unfolding statementOf
-    statement-lays k place =
+    statement-lays e k place =
         gives-either (eqb k 1) _ _ (rule-lays at)
         (gives-either (eqb k 4) _ _ (output-lays at)
         (gives-either (eqb k 9) _ _ theoryPart-lays
-        (gives-either (eqb k 10) _ _ (comment-lays at) stops)))
+        (gives-either (eqb k 10) _ _ (comment-lays e at) stops)))
 
 -- ---- the lines of a text
 
@@ -155,24 +157,24 @@ module _ (s : List ℕ) where
   abbrev pub LinePlaced : Line → Type 0
   LinePlaced l = Placed s (l .place) (theoryIn (l .says))
 
-  line-lays : (k place at : ℕ) → Follows s place 1 at → Gives (λ l n. LinePlaced l) (lineOf k place s at)
+  line-lays : (e : LineEnd) (k place at : ℕ) → Follows s place 1 at → Gives (λ l n. LinePlaced l) (lineOf e k place s at)
   unfolding lineOf
-  line-lays k place at h = gives-then (statement-lays s place at h k place) (λ x n g. gives-after (lineEnd s n) (λ u m. gives g))
+  line-lays e k place at h = gives-then (statement-lays s place at h e k place) (λ x n g. gives-after (lineEndOf e s n) (λ u m. gives g))
 
-  lines-lay : (n at : ℕ) → Gives (λ ls m. All LinePlaced ls) (lines n s at)
+  lines-lay : (first : Header) (n at : ℕ) → Gives (λ ls m. All LinePlaced ls) (lines first n s at)
   unfolding lines
-  lines-lay zero at = stops
-  lines-lay (suc n) at =
+  lines-lay first zero at = stops
+  lines-lay first (suc n) at =
       gives-then (natural-gives 3 10 s at) (λ k m h.
       gives-either (eqb k 0) _ _
-      (gives-after (lastLine s m) (λ u o. gives tt))
-      (gives-then (line-lays k at m (h .1)) (λ l o g.
-      gives-then (lines-lay n o) (λ ls e i. gives (g, i)))))
+      (gives-after (lastLine (first .ends) s m) (λ u o. gives tt))
+      (gives-then (line-lays (first .ends) k at m (h .1)) (λ l o g.
+      gives-then (lines-lay first n o) (λ ls e i. gives (g, i)))))
 
   -- what each line of a text that reads uses stands in its fields
   pub text-lays : (ls : List Line) → statements s ≡ got ls → All LinePlaced ls
   unfolding statements plan
-  text-lays ls = go (gives-after (firstLine s 0) (λ u n. lines-lay (length s) n))
+  text-lays ls = go (gives-after (firstLine s 0) (λ first n. lines-lay first (length s) n))
     where
       go : {a : Reading (List Line)} → Gives (λ ls m. All LinePlaced ls) a → answer a ≡ got ls → All LinePlaced ls
       go (gives {v} h) e = let z : v ≡ ls = (cc) in rw z at h

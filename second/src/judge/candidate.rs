@@ -1,13 +1,13 @@
 //! The reading of a candidate: refusal 7.
 
-use super::fields::{Fields, Finding, LINE_END};
+use super::fields::{Fields, Finding};
 use super::reading::LARGEST_ATOM;
 use super::refusal::Refusal;
 
 pub const MALFORMED: u32 = 7;
 
 /// Reads a candidate into its atoms, strictly ascending.
-// Reads the atoms and the line end, and asks that nothing follow.
+// Reads the atoms and the line end, which may be of either kind, and asks that nothing follow.
 pub fn read_candidate(cand: &[u8]) -> Result<Vec<u32>, Refusal> {
     let mut fields = Fields::new(cand, 0, MALFORMED);
     let atoms = atoms(&mut fields)?;
@@ -21,11 +21,11 @@ pub fn read_candidate(cand: &[u8]) -> Result<Vec<u32>, Refusal> {
 // The atoms before the line end.
 fn atoms(fields: &mut Fields) -> Result<Vec<u32>, Refusal> {
     let mut atoms = Vec::new();
-    if fields.byte() == Some(LINE_END) {
+    if fields.next_line_end().is_some() {
         return Ok(atoms);
     }
     atoms.push(atom_above(fields, 0)?);
-    while !fields.ended() && fields.byte() != Some(LINE_END) {
+    while !fields.ended() && fields.next_line_end().is_none() {
         fields.space()?;
         let last = atoms[atoms.len() - 1];
         atoms.push(atom_above(fields, last)?);

@@ -3,7 +3,44 @@
 use super::refusal::{refusal, Refusal};
 
 pub const SPACE: u8 = 32;
-pub const LINE_END: u8 = 10;
+pub const FEED: u8 = 10;
+pub const RETURN: u8 = 13;
+
+/// How a line ends: by byte 10 alone, or by the bytes 13 10.
+#[derive(Clone, Copy, Debug, PartialEq, Eq)]
+pub enum LineEnd {
+    Feed,
+    Return,
+}
+
+impl LineEnd {
+    // The bytes of a line end.
+    pub fn bytes(self) -> &'static [u8] {
+        match self {
+            LineEnd::Feed => &[FEED],
+            LineEnd::Return => &[RETURN, FEED],
+        }
+    }
+
+    // The line end that some bytes begin with: 13 without a 10 after it is none.
+    pub fn in_front(bytes: &[u8]) -> Option<LineEnd> {
+        [LineEnd::Feed, LineEnd::Return].into_iter().find(|end| bytes.starts_with(end.bytes()))
+    }
+
+    // The kind of some bytes: that of their first byte 10.
+    pub fn kind_of(bytes: &[u8]) -> LineEnd {
+        match bytes.iter().position(|b| *b == FEED) {
+            Some(at) if bytes[..at].ends_with(&[RETURN]) => LineEnd::Return,
+            _ => LineEnd::Feed,
+        }
+    }
+
+    // Whether what a line says stops before some bytes, where lines end so: byte 10 stops it wherever it stands, 13 only
+    // as a part of this line end.
+    pub fn stops(self, bytes: &[u8]) -> bool {
+        bytes.first() == Some(&FEED) || bytes.starts_with(self.bytes())
+    }
+}
 
 /// What a field's value is found to be, once its form is right.
 #[derive(Clone, Copy, Debug, PartialEq, Eq)]
@@ -41,15 +78,25 @@ impl<'a> Fields<'a> {
         self.at >= self.bytes.len()
     }
 
+    // The bytes that are left.
+    fn left(&self) -> &'a [u8] {
+        &self.bytes[self.at..]
+    }
+
+    // The line end that comes next, if there is one.
+    pub fn next_line_end(&self) -> Option<LineEnd> {
+        LineEnd::in_front(self.left())
+    }
+
     // The refusal for a fault at the next byte, or at the length if none is left.
     pub fn fault_here(&self) -> Refusal {
         refusal(self.fault, self.at)
     }
 
-    // Takes a field: the bytes up to the next space, line end or end.
+    // Takes a field: the bytes up to the next space, line end of either kind or end.
     fn field(&mut self) -> (usize, &'a [u8]) {
         let first = self.at;
-        while matches!(self.byte(), Some(b) if b != SPACE && b != LINE_END) {
+        while !self.ended() && self.byte() != Some(SPACE) && self.next_line_end().is_none() {
             self.at += 1;
         }
         (first, &self.bytes[first..self.at])
@@ -76,7 +123,7 @@ impl<'a> Fields<'a> {
     }
 
     // Takes one byte that must be the one given.
-    fn exactly(&mut self, byte: u8) -> Result<(), Refusal> {
+    pub fn exactly(&mut self, byte: u8) -> Result<(), Refusal> {
         if self.byte() != Some(byte) {
             return Err(self.fault_here());
         }
@@ -89,15 +136,26 @@ impl<'a> Fields<'a> {
         self.exactly(SPACE)
     }
 
-    // Takes a line end.
-    pub fn line_end(&mut self) -> Result<(), Refusal> {
-        self.exactly(LINE_END)
+    // Takes a line end of either kind, and says which it was.
+    pub fn line_end(&mut self) -> Result<LineEnd, Refusal> {
+        let end = self.next_line_end().ok_or(self.fault_here())?;
+        self.line_end_of(end)?;
+        Ok(end)
+    }
+
+    // Takes a line end of the kind given; one of the other kind is a fault at its first byte.
+    pub fn line_end_of(&mut self, end: LineEnd) -> Result<(), Refusal> {
+        if self.next_line_end() != Some(end) {
+            return Err(self.fault_here());
+        }
+        self.at += end.bytes().len();
+        Ok(())
     }
 
     // Takes one byte of a string: neither 0 nor 10.
     fn string_byte(&mut self) -> Result<u8, Refusal> {
         match self.byte() {
-            Some(b) if b != 0 && b != LINE_END => {
+            Some(b) if b != 0 && b != FEED => {
                 self.at += 1;
                 Ok(b)
             }
@@ -110,10 +168,11 @@ impl<'a> Fields<'a> {
         (0..length).map(|_| self.string_byte()).collect()
     }
 
-    // Takes the bytes before the line end, none of them 0; the line end stays.
-    pub fn rest_of_line(&mut self) -> Result<Vec<u8>, Refusal> {
+    // Takes the bytes before the line end, none of them 0; the line end stays. A 13 before it belongs to these bytes
+    // where lines end in 10 alone.
+    pub fn rest_of_line(&mut self, end: LineEnd) -> Result<Vec<u8>, Refusal> {
         let mut bytes = Vec::new();
-        while self.byte() != Some(LINE_END) {
+        while !end.stops(self.left()) {
             bytes.push(self.string_byte()?);
         }
         Ok(bytes)

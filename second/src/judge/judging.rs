@@ -2,7 +2,7 @@
 
 use super::candidate::read_candidate;
 use super::differences::{terms, Difference, NO_DIFFERENCE, SECOND, TWICE, UNKNOWN};
-use super::fields::LINE_END;
+use super::fields::LineEnd;
 use super::meaning::{first_broken, smallest_unfounded, Atoms};
 use super::reading::{read_text, Line, TEXT_BYTES};
 use super::refusal::{refusal, Refusal, Verdict};
@@ -109,10 +109,12 @@ pub fn show<'a>(text: &'a [u8], cand: &'a [u8], number: u32, place: u32) -> &'a 
     }
 }
 
-// The part from a place to before the next line end, or to the end.
+// The part from a place to before the next line end, or to the end; where the first byte 10 has a 13 before it, a 13 right
+// before a byte 10 is no part.
 fn line_from(bytes: &[u8], place: usize) -> &[u8] {
     let part = bytes.get(place..).unwrap_or(&[]);
-    let end = part.iter().position(|b| *b == LINE_END).unwrap_or(part.len());
+    let kind = LineEnd::kind_of(bytes);
+    let end = (0..part.len()).find(|i| kind.stops(&part[*i..])).unwrap_or(part.len());
     &part[..end]
 }
 

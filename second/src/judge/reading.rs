@@ -1,6 +1,6 @@
 //! The reading of a plan text: refusals 3, 4 and 5.
 
-use super::fields::{Fields, Finding, LINE_END, SPACE};
+use super::fields::{Fields, Finding, LineEnd, SPACE};
 use super::refusal::{refusal, Refusal};
 
 pub const GRAMMAR: u32 = 3;
@@ -92,12 +92,12 @@ fn within<N: PartialOrd>(value: N, least: N, most: N, number: u32) -> Finding {
 }
 
 /// Reads a whole text; its length is judged elsewhere (refusal 2).
-// Reads the first line, the statements, the `0` line, and asks that nothing follow.
+// Reads the first line, the statements, the `0` line, all ended as the first one, and asks that nothing follow.
 pub fn read_text(text: &[u8]) -> Result<Vec<Line>, Refusal> {
-    first_line(text)?;
-    let mut fields = Fields::new(text, FIRST_LINE.len() + 1, GRAMMAR);
+    let mut fields = Fields::new(text, 0, GRAMMAR);
+    let end = first_line(&mut fields)?;
     let mut lines = Vec::new();
-    while let Some(line) = line(&mut fields)? {
+    while let Some(line) = line(&mut fields, end)? {
         lines.push(line);
     }
     if !fields.ended() {
@@ -106,36 +106,30 @@ pub fn read_text(text: &[u8]) -> Result<Vec<Line>, Refusal> {
     Ok(lines)
 }
 
-// Compares the first nine bytes one by one, then judges the byte after them.
-fn first_line(text: &[u8]) -> Result<(), Refusal> {
-    for (at, wanted) in FIRST_LINE.iter().enumerate() {
-        if text.get(at) != Some(wanted) {
-            return Err(refusal(GRAMMAR, at));
-        }
+// Compares the first nine bytes one by one, then says which line end stands after them.
+fn first_line(fields: &mut Fields) -> Result<LineEnd, Refusal> {
+    for wanted in FIRST_LINE {
+        fields.exactly(*wanted)?;
     }
-    match text.get(FIRST_LINE.len()) {
-        Some(&LINE_END) => Ok(()),
-        Some(&SPACE) => Err(refusal(NOT_CARRIED, FIRST_LINE.len())),
-        _ => Err(refusal(GRAMMAR, FIRST_LINE.len())),
+    if fields.byte() == Some(SPACE) {
+        return Err(refusal(NOT_CARRIED, fields.at()));
     }
+    fields.line_end()
 }
 
-// Reads one line; none for the line `0`.
-fn line(fields: &mut Fields) -> Result<Option<Line>, Refusal> {
+// Reads one line, which must end as the first one; none for the line `0`.
+fn line(fields: &mut Fields, end: LineEnd) -> Result<Option<Line>, Refusal> {
     let place = fields.at() as u32;
     let mut uses = Vec::new();
     let statement = match fields.natural(statement_type)? {
-        0 => {
-            fields.line_end()?;
-            return Ok(None);
-        }
-        1 => rule(fields)?,
-        4 => output(fields)?,
-        9 => theory(fields, &mut uses)?,
-        _ => comment(fields)?,
+        0 => None,
+        1 => Some(rule(fields)?),
+        4 => Some(output(fields)?),
+        9 => Some(theory(fields, &mut uses)?),
+        _ => Some(comment(fields, end)?),
     };
-    fields.line_end()?;
-    Ok(Some(Line { place, statement, uses }))
+    fields.line_end_of(end)?;
+    Ok(statement.map(|statement| Line { place, statement, uses }))
 }
 
 // Statement types: carried, not carried, or unknown.
@@ -376,7 +370,7 @@ fn guard(fields: &mut Fields, uses: &mut Vec<Use>) -> Result<(u32, u32), Refusal
 }
 
 // A comment after its type: a space, then anything up to the line end.
-fn comment(fields: &mut Fields) -> Result<Statement, Refusal> {
+fn comment(fields: &mut Fields, end: LineEnd) -> Result<Statement, Refusal> {
     fields.space()?;
-    Ok(Statement::Comment { bytes: fields.rest_of_line()? })
+    Ok(Statement::Comment { bytes: fields.rest_of_line(end)? })
 }

@@ -1,6 +1,6 @@
 //! A container of named cases: for each a line `NAME LENGTH`, then so many bytes, then byte 10.
 
-use crate::judge::fields::{natural_of, LINE_END, SPACE};
+use crate::judge::fields::{natural_of, FEED, SPACE};
 use crate::judge::reading::TEXT_BYTES;
 
 /// Some bytes with a name that has no space and no line end.
@@ -16,7 +16,7 @@ pub fn write(cases: &[Case]) -> Vec<u8> {
     for case in cases {
         out.extend(format!("{} {}\n", case.name, case.bytes.len()).as_bytes());
         out.extend(&case.bytes);
-        out.push(LINE_END);
+        out.push(FEED);
     }
     out
 }
@@ -34,11 +34,11 @@ pub fn read(container: &[u8]) -> Vec<Case> {
 
 // The first case of some bytes, and the bytes after it.
 fn first(bytes: &[u8]) -> Option<(Case, &[u8])> {
-    let line = bytes.iter().position(|b| *b == LINE_END)?;
+    let line = bytes.iter().position(|b| *b == FEED)?;
     let space = bytes[..line].iter().position(|b| *b == SPACE)?;
     let length = natural_of(&bytes[space + 1..line])? as usize;
     let rest = &bytes[line + 1..];
-    if length > TEXT_BYTES || rest.get(length) != Some(&LINE_END) {
+    if length > TEXT_BYTES || rest.get(length) != Some(&FEED) {
         return None;
     }
     let name = String::from_utf8(bytes[..space].to_vec()).ok()?;

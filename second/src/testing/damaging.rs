@@ -1,6 +1,7 @@
 //! Damage to the bytes of a text or a candidate.
 
 use super::random::Random;
+use crate::judge::fields::{FEED, RETURN, SPACE};
 
 // Numbers at the edges of some bound, as they may be written.
 fn edge_number(random: &mut Random) -> Vec<u8> {
@@ -23,8 +24,9 @@ fn fields(bytes: &[u8]) -> Vec<(usize, usize)> {
     let mut all = Vec::new();
     let mut first = 0;
     for (i, b) in bytes.iter().enumerate() {
-        if *b == 32 || *b == 10 {
-            all.push((first, i));
+        if *b == SPACE || *b == FEED {
+            let returned = *b == FEED && bytes[first..i].ends_with(&[RETURN]);
+            all.push((first, if returned { i - 1 } else { i }));
             first = i + 1;
         }
     }
@@ -60,7 +62,7 @@ fn damage_swap(random: &mut Random, bytes: &mut Vec<u8>) {
 
 // Drops, doubles or exchanges whole lines.
 fn damage_lines(random: &mut Random, bytes: &mut Vec<u8>) {
-    let mut lines: Vec<Vec<u8>> = bytes.split_inclusive(|b| *b == 10).map(|l| l.to_vec()).collect();
+    let mut lines: Vec<Vec<u8>> = bytes.split_inclusive(|b| *b == FEED).map(|l| l.to_vec()).collect();
     if lines.is_empty() {
         return;
     }
@@ -122,11 +124,11 @@ pub fn damage(random: &mut Random, bytes: &mut Vec<u8>) {
         0..=2 => damage_number(random, bytes),
         3 => damage_swap(random, bytes),
         4 => damage_lines(random, bytes),
-        5 => damage_separator(random, bytes, 32, true),
-        6 => damage_separator(random, bytes, 32, false),
+        5 => damage_separator(random, bytes, SPACE, true),
+        6 => damage_separator(random, bytes, SPACE, false),
         7 => {
             let double = random.once_in(2);
-            damage_separator(random, bytes, 10, double)
+            damage_separator(random, bytes, FEED, double)
         }
         _ => damage_byte(random, bytes),
     }

@@ -1,6 +1,7 @@
 //! Random plans and candidates, all from a fixed seed.
 
 use super::random::Random;
+use crate::judge::fields::LineEnd;
 use crate::judge::judging::{read_plan, settle, Outcome, Plan};
 use crate::judge::meaning::Atoms;
 use crate::judge::reading::{LARGEST_BOUND, LARGEST_WEIGHT};
@@ -232,6 +233,10 @@ impl Theory<'_> {
                 self.compound(symbol, &[one])
             }
             2 => self.compound(-1, &[symbol, symbol]),
+            3 => {
+                let string = bytes(self.random, 6);
+                self.symbol(&string)
+            }
             _ => self.symbol(b"n"),
         }
     }
@@ -430,8 +435,8 @@ impl Loose {
     // A string term, often one a difference needs.
     fn symbol(&mut self, random: &mut Random, kind: usize) {
         let term = Loose::fresh(random, self.defined.len());
-        let string: &[u8] =
-            [&b"diff"[..], b"-", b"<=", *random.one_of(&[&b""[..], b"a", b"diff ", b"<", b"--", b"1"])][kind];
+        let others = [&b""[..], b"a", b"diff ", b"<", b"--", b"1", b"diff\r", b"-\r", b"<=\r", b"\r"];
+        let string: &[u8] = [&b"diff"[..], b"-", b"<=", *random.one_of(&others)][kind];
         self.lines.push(string_line(&[9, 1, term], string));
         self.defined.push(term);
         self.named[kind].push(term);
@@ -594,10 +599,11 @@ pub fn choice(atoms: usize) -> Case {
 }
 
 /// A readable text of exactly `length` bytes: a shorter one, with a comment before its `0` line.
-// The comment's line has four bytes without its own.
 pub fn padded(text: &[u8], length: usize) -> Vec<u8> {
-    let comment = vec![b'c'; length - text.len() - 4];
-    [&text[..text.len() - 2], b"10 ", &comment, b"\n0\n"].concat()
+    let end = LineEnd::kind_of(text).bytes();
+    let (before, last) = text.split_at(text.len() - b"0".len() - end.len());
+    let comment = vec![b'c'; length - text.len() - b"10 ".len() - end.len()];
+    [before, b"10 ", &comment, end, last].concat()
 }
 
 /// The largest case of some kind that a text of exactly `length` bytes holds.

@@ -6,6 +6,8 @@ pub mod container;
 pub mod damaging;
 pub mod describing;
 pub mod generating;
+pub mod line_end_traps;
+pub mod line_ends;
 pub mod plans;
 #[cfg(plan_judge)]
 pub mod proved;

@@ -3,6 +3,8 @@
 
 use super::container::Case;
 use super::generating::{candidate_of, long_text};
+use super::line_end_traps;
+use super::line_ends::returned;
 use super::vectors::{LISTING_49, LISTING_50, PLAN};
 use crate::judge::judging::{judge, report, show, CYCLE_PLACES, ROOM_BYTES};
 use crate::judge::refusal::{Refusal, Verdict};
@@ -21,10 +23,10 @@ const ASKED: u32 = 16;
 
 // Candidates of P: right ones, then each fault.
 const CANDIDATES: &[&str] = &[
-    "\n", "1\n", "2\n", "3\n", "1 2\n", "1 3\n", "2 3\n", "1 2 3\n", "4\n", "1 2 3 4\n", "4096\n", "", "1 2 3",
-    "1 2 3 ", "1 2 3 \n", "1  2 3\n", " 1 2 3\n", "1 2 3\n\n", "1 2 3\n4\n", "3 2 1\n", "1 2 2\n", "0\n", "1 0\n",
-    "4097\n", "1 2 3 4097\n", "18446744073709551617\n", "01\n", "-1\n", "1 -2\n", "x\n", "1 2 3x\n", "1,2,3\n",
-    "1\t2\n", "1 2 3\r\n", "\n\n", "{1 2 3}\n",
+    "\n", "1\n", "2\n", "3\n", "1 2\n", "1 3\n", "2 3\n", "1 2 3\n", "4\n", "1 2 3 4\n", "4096\n", "1 2 3\r\n", "",
+    "1 2 3", "1 2 3 ", "1 2 3 \n", "1  2 3\n", " 1 2 3\n", "1 2 3\n\n", "1 2 3\n4\n", "3 2 1\n", "1 2 2\n", "0\n",
+    "1 0\n", "4097\n", "1 2 3 4097\n", "18446744073709551617\n", "01\n", "-1\n", "1 -2\n", "x\n", "1 2 3x\n",
+    "1,2,3\n", "1\t2\n", "1 2 3\r", "\n\n", "{1 2 3}\n",
 ];
 
 // Neighbours of P: some lines of it, and what stands there instead; each is judged with `1 2 3`.
@@ -416,6 +418,26 @@ pub fn unsound() -> Vec<Unsound> {
     FAULTY.iter().map(|faulty| unsound_text("", faulty, 0)).chain(behind).collect()
 }
 
+// The unsound texts, plan Q and the traps with lines that end in 13 10; P with one line end of the other kind.
+fn ended() -> Vec<Pair> {
+    let q = returned(PLAN.replace("9 0 8 5\n", "9 0 8 45\n").as_bytes());
+    let traps = line_end_traps::texts().into_iter().chain(line_end_traps::candidates());
+    let mut pairs: Vec<Pair> = traps.map(|trap| pair(trap.name, trap.text, trap.cand)).collect();
+    pairs.push(pair("Q-13-10", q, "1 2 3\r\n"));
+    pairs.extend(unsound().iter().map(|u| pair(format!("{}-13-10", u.name), returned(u.text.as_bytes()), "\r\n")));
+    pairs.extend(mixed("P-10-but", "\n", "\r\n"));
+    pairs.extend(mixed("P-13-10-but", "\r\n", "\n"));
+    pairs
+}
+
+// P with one line end of another kind than the others.
+fn mixed(name: &str, all: &str, one: &str) -> Vec<Pair> {
+    let lines: Vec<&str> = PLAN.lines().collect();
+    let end = |i: usize, j: usize| if i == j { one } else { all };
+    let text = |i: usize| -> String { (0..lines.len()).map(|j| lines[j].to_string() + end(i, j)).collect() };
+    (0..lines.len()).map(|i| pair(format!("{name}-{i}"), text(i), "1 2 3\n")).collect()
+}
+
 // P with each line left out, doubled, and moved behind the next.
 fn moved() -> Vec<Pair> {
     let lines: Vec<&str> = PLAN.split_inclusive('\n').collect();
@@ -649,6 +671,7 @@ pub fn pairs() -> Vec<Pair> {
     pairs.extend(changed());
     pairs.extend(ordered());
     pairs.extend(unsound().iter().map(|u| pair(u.name, &u.text, "\n")));
+    pairs.extend(ended());
     pairs.extend(moved());
     pairs
 }

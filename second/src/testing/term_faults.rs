@@ -3,7 +3,7 @@
 use super::generating::{counted, difference_lines, line_of, literal, merge, text_of};
 use super::random::Random;
 use crate::judge::differences::{NO_DIFFERENCE, SECOND, TWICE, UNKNOWN};
-use crate::judge::fields::{integer_of, LINE_END, SPACE};
+use crate::judge::fields::{integer_of, FEED, SPACE};
 use crate::judge::reading::LARGEST_INDEX;
 use std::collections::BTreeSet;
 
@@ -115,7 +115,7 @@ struct Sheet {
 impl Sheet {
     // The lines of a readable text, with two differences more if it has not two theory atoms.
     fn new(random: &mut Random, text: &[u8]) -> Sheet {
-        let lines: Vec<&[u8]> = text.split(|b| *b == LINE_END).collect();
+        let lines: Vec<&[u8]> = text.split(|b| *b == FEED).collect();
         let mut sheet = Sheet { rows: lines[1..lines.len() - 2].iter().map(|l| Row::new(l)).collect() };
         if sheet.giving(sheet.rows.len(), Atoms).len() < 2 {
             sheet.grow(random);
@@ -289,7 +289,7 @@ impl Sheet {
     fn other_string(&mut self, random: &mut Random, i: usize) {
         let numbers = &self.rows[i].numbers;
         let term = *random.one_of(&[numbers[NAME], numbers[numbers.len() - 2]]);
-        let strings = [" 0 ", " 3 dif", " 4 Diff", " 5 diff ", " 1 <", " 2 =<", " 3 <= "];
+        let strings = [" 0 ", " 3 dif", " 4 Diff", " 5 diff ", " 5 diff\r", " 1 <", " 2 =<", " 3 <= ", " 3 <=\r"];
         match self.giver(i, Terms, term) {
             Some(j) if self.rows[j].kind() == Some(STRING) => {
                 self.rows[j].rest = random.one_of(&strings).as_bytes().to_vec()

@@ -1,6 +1,9 @@
 //! The reader's test vectors, from document 01, "Reading the text" and "The candidate", document 02 and the decided points.
 
 use super::container::Case;
+use super::line_end_traps;
+use super::line_ends::returned;
+use crate::judge::fields::{FEED, RETURN};
 use crate::{describe, describe_candidate};
 
 const HEADER: &[u8] = b"asp 1 0 0\n";
@@ -173,7 +176,7 @@ const CANDIDATES: &[&[&[u8]]] = &[
     // Right ones.
     &[
         b"\n", b"1\n", b"2\n", b"3\n", b"1 2 3\n", b"1 3\n", b"2 3\n", b"9 10\n", b"99 100 4095 4096\n", b"4096\n",
-        b"1 4096\n", b"7 8 9 10 11 12 13 14 15 16 17 18 19 20\n",
+        b"1 4096\n", b"7 8 9 10 11 12 13 14 15 16 17 18 19 20\n", b"1\r\n", b"1 2 3\r\n",
     ],
     // Nothing, and no line end.
     &[b"", b"1", b"1 2", b"1 ", b" ", b"4096", b"4097", b"1 1", b"1 4097", b"-"],
@@ -184,7 +187,7 @@ const CANDIDATES: &[&[&[u8]]] = &[
     // Forms.
     &[
         b"01\n", b"00\n", b"-1\n", b"+1\n", b"x\n", b"1x\n", b"1 2x\n", b"1 02\n", b"1 -2\n", b"1\t2\n", b"1,2\n",
-        b"1\r\n", b"1 \r\n", b"1 2\0\n", b"\0\n", b"1\x80\n", b"1 \xff\n", b"asp 1 0 0\n",
+        b"1\r\t\n", b"1 \r\n", b"1 2\0\n", b"\0\n", b"1\x80\n", b"1 \xff\n", b"asp 1 0 0\n",
     ],
     // Order and range.
     &[
@@ -211,6 +214,19 @@ fn named(name: impl Into<String>, bytes: impl AsRef<[u8]>) -> Case {
 // A case with one line between the first line and the line `0`; its name begins with a colon.
 fn single(line: &[u8]) -> Case {
     named(format!(":{}", shown(line)), [HEADER, line, b"\n0\n"].concat())
+}
+
+// The same with lines that end in 13 10.
+fn single_returned(line: &[u8]) -> Case {
+    named(format!("13-10:{}", shown(line)), [&returned(HEADER), line, b"\r\n0\r\n"].concat())
+}
+
+// Lines that end in 13 10: each right one, and all single ones that have a string, a comment or a 13.
+fn returned_lines() -> Vec<Case> {
+    let any_bytes = |line: &&&[u8]| [&b"10"[..], b"9 1", b"4"].iter().any(|front| line.starts_with(front));
+    let mut lines: Vec<&[u8]> = LINES.iter().map(|(line, _)| line.as_bytes()).collect();
+    lines.extend(SINGLE.concat().iter().filter(|line| any_bytes(line) || line.contains(&RETURN)));
+    lines.into_iter().map(single_returned).collect()
 }
 
 // A line with one field changed to each value that is tried there.
@@ -266,6 +282,13 @@ fn plans() -> Vec<Case> {
     (0..=PLAN.len()).map(cut).collect()
 }
 
+// Plan P with lines that end in 13 10, and what is left of it before, within and behind each line end.
+fn returned_plans() -> Vec<Case> {
+    let plan = returned(PLAN.as_bytes());
+    let ends = (0..plan.len()).filter(|at| plan[*at] == FEED).flat_map(|at| at - 1..=at + 1);
+    ends.map(|n| named(format!("P-13-10-{n}"), &plan[..n])).collect()
+}
+
 // The published texts, and one with each statement that is not carried.
 fn published() -> Vec<Case> {
     vec![
@@ -296,6 +319,9 @@ pub fn texts() -> Vec<Case> {
     cases.extend(SINGLE.concat().iter().map(|l| single(l)));
     cases.extend(long_numbers());
     cases.extend(plans());
+    cases.extend(returned_lines());
+    cases.extend(returned_plans());
+    cases.extend(line_end_traps::texts().into_iter().map(|trap| named(trap.name, trap.text)));
     once(cases)
 }
 
@@ -307,6 +333,8 @@ pub fn candidates() -> Vec<Case> {
     let mut cases: Vec<Case> = CANDIDATES.concat().iter().map(short).collect();
     cases.push(named("cand-long", long));
     cases.push(named("cand-many", many.join(" ") + "\n"));
+    cases.push(named("cand-many-13-10", many.join(" ") + "\r\n"));
+    cases.extend(line_end_traps::candidates().into_iter().map(|trap| named(trap.name, trap.cand)));
     once(cases)
 }
 

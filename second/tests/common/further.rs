@@ -1,5 +1,6 @@
 //! Plans with further time rules, and what demand 3 says of them.
 use super::{in_force, literals_of, negative_cycle, refused, Judged};
+use second::judge::fields::LineEnd;
 use second::judge::judging::read_plan;
 use second::testing::generating;
 use second::testing::random::Random;
@@ -95,7 +96,7 @@ fn rule(random: &mut Random, free: &mut Free, names: &[u32]) -> Option<(Vec<Stri
 }
 
 /// A readable plan with one to three further rules, its old lines in order; none where the result is not readable.
-// New lines stand after the old ones, or anywhere among them.
+// New lines stand after the old ones, or anywhere among them, and end as these.
 pub fn extended(random: &mut Random, text: &[u8], cand: &[u8]) -> Option<Extended> {
     let plan = read_plan(text).ok()?;
     let atoms = read_candidate(cand).ok()?;
@@ -109,6 +110,7 @@ pub fn extended(random: &mut Random, text: &[u8], cand: &[u8]) -> Option<Extende
         new_atoms.push(atom);
     }
     let mixed = random.once_in(3);
+    let end = LineEnd::kind_of(text).bytes();
     let mut old = text.split_inclusive(|b| *b == 10).collect::<Vec<_>>();
     let last = old.pop()?;
     let mut new = new_lines.iter();
@@ -116,13 +118,13 @@ pub fn extended(random: &mut Random, text: &[u8], cand: &[u8]) -> Option<Extende
     for (i, line) in old.iter().enumerate() {
         while mixed && i > 0 && random.once_in(2) {
             let Some(line) = new.next() else { break };
-            all.extend([line.as_bytes(), b"\n"].concat());
+            all.extend([line.as_bytes(), end].concat());
         }
         places.push((from, all.len() as u32));
         from += line.len() as u32;
         all.extend(*line);
     }
-    new.for_each(|line| all.extend([line.as_bytes(), b"\n"].concat()));
+    new.for_each(|line| all.extend([line.as_bytes(), end].concat()));
     all.extend(last);
     let mut both = [atoms, new_atoms.clone()].concat();
     both.sort();

@@ -1,7 +1,11 @@
 #![allow(dead_code)]
+pub mod ends;
 pub mod further;
 pub mod writing;
+use second::judge::fields::LineEnd;
 use second::judge::judging::{CYCLE_PLACES, ROOM_BYTES};
+use second::testing::line_end_traps::{self, Answered};
+use second::testing::line_ends::returned;
 use second::testing::plans::{unsound, Unsound};
 use second::{Body, Difference, Literal, Refusal, Verdict};
 
@@ -70,6 +74,11 @@ pub fn judged_by(judge: Judge, text: &[u8], cand: &[u8]) -> Judged {
     Judged { verdict, room, cycle }
 }
 
+// What the second program shows for a refusal.
+pub fn shown(text: &[u8], cand: &[u8], Refusal { number, place }: Refusal) -> Vec<u8> {
+    second::show(text, cand, number, place).to_vec()
+}
+
 // The verdict alone.
 pub fn verdict(text: impl AsRef<[u8]>, cand: impl AsRef<[u8]>) -> Verdict {
     judged(text.as_ref(), cand.as_ref()).verdict
@@ -126,24 +135,88 @@ pub fn check_traps(judge: impl Fn(&str, &str) -> Verdict) {
     }
 }
 
-// A text with so many bytes more: a comment behind the first line, whose line has four bytes without its own.
-fn lengthened(text: &str, more: usize) -> String {
-    match more {
-        0 => text.to_string(),
-        _ => text.replacen('\n', &format!("\n10 {}\n", "c".repeat(more - 4)), 1),
-    }
+// Where a place of some bytes whose lines end in 10 stands when they end in 13 10.
+pub fn moved(bytes: &[u8], place: u32) -> u32 {
+    place + bytes[..place as usize].iter().filter(|b| **b == b'\n').count() as u32
 }
 
-// Asks of a program what it says to each unsound text, also a long one, and what it shows; for 6 it shows nothing.
-pub fn check_terms(judge: impl Fn(&str, &str) -> Verdict, show: impl Fn(&str, u32, u32) -> String) {
-    for Unsound { name, text, refusal: Refusal { number, place }, shown } in unsound() {
-        for length in [text.len(), 2_000, 2_001, 60_000] {
-            let more = length - text.len();
-            let (text, place) = (lengthened(&text, more), place + more as u32);
-            assert_eq!(judge(&text, "\n"), refused(number, place), "{name} {length}");
-            assert_eq!(show(&text, number, place), shown, "{name} {length}");
-            assert_eq!(show(&text, 6, place), "", "{name} {length}");
-        }
+/// The first line, without its end.
+const FIRST_LINE: &[u8] = b"asp 1 0 0";
+
+// A text with so many bytes more: a comment behind the first line, ended as that.
+fn lengthened(text: &[u8], more: usize) -> Vec<u8> {
+    if more == 0 {
+        return text.to_vec();
+    }
+    let end = LineEnd::kind_of(text).bytes();
+    let (first, rest) = text.split_at(FIRST_LINE.len() + end.len());
+    let comment = vec![b'c'; more - b"10 ".len() - end.len()];
+    [first, b"10 ", &comment, end, rest].concat()
+}
+
+// The lengths that a text is tried with: its own, and if its first line is right those around the bounds of a frame.
+fn lengths(text: &[u8]) -> Vec<usize> {
+    let whole = text.strip_prefix(FIRST_LINE).is_some_and(|rest| LineEnd::in_front(rest).is_some());
+    let others: &[usize] = if whole { &[2_000, 2_001, 60_000] } else { &[] };
+    [&[text.len()], others].concat()
+}
+
+// What a text is answered at each length it is tried with: a place in the text is moved by the bytes put before it.
+fn at_each_length(Answered { name, text, cand, refusal, shown }: &Answered) -> Vec<Answered> {
+    let at_length = |length: usize| {
+        let more = length - text.len();
+        let shifted = |Refusal { number, place }| {
+            let in_text = !matches!(number, 7 | 9 | 10);
+            Refusal { number, place: if in_text { place + more as u32 } else { place } }
+        };
+        Answered { name, text: lengthened(text, more), cand: cand.clone(), refusal: refusal.map(shifted), shown }
+    };
+    lengths(text).into_iter().map(at_length).collect()
+}
+
+// Asks of a program whether it answers so and shows so.
+fn check_answer(
+    judge: &impl Fn(&[u8], &[u8]) -> Verdict,
+    show: &impl Fn(&[u8], &[u8], Refusal) -> Vec<u8>,
+    Answered { name, text, cand, refusal, shown }: &Answered,
+) {
+    let (got, length) = (judge(text, cand), text.len());
+    let Some(wanted) = *refusal else {
+        return assert!(matches!(got, Verdict::Accepted(_)), "{name} {length} {got:?}");
+    };
+    assert_eq!(got, Verdict::Refused(wanted), "{name} {length}");
+    assert_eq!(show(text, cand, wanted), shown.as_bytes(), "{name} {length}");
+}
+
+// Asks of a program what it says to each trap of line ends whose name begins so, also lengthened, and what it shows.
+pub fn check_line_ends(
+    front: &str,
+    judge: impl Fn(&[u8], &[u8]) -> Verdict,
+    show: impl Fn(&[u8], &[u8], Refusal) -> Vec<u8>,
+) {
+    let all = line_end_traps::texts().into_iter().chain(line_end_traps::candidates());
+    let traps: Vec<Answered> = all.filter(|trap| trap.name.starts_with(front)).collect();
+    assert!(!traps.is_empty(), "{front}");
+    traps.iter().flat_map(at_each_length).for_each(|trap| check_answer(&judge, &show, &trap));
+}
+
+// What an unsound text is answered, with both line ends and at each length.
+fn unsound_answers(Unsound { name, text, refusal: Refusal { number, place }, shown }: Unsound) -> Vec<Answered> {
+    let answered = |text: Vec<u8>, place| {
+        let refusal = Some(Refusal { number, place });
+        at_each_length(&Answered { name, text, cand: b"\n".to_vec(), refusal, shown })
+    };
+    let text = text.into_bytes();
+    [answered(returned(&text), moved(&text, place)), answered(text, place)].into_iter().flatten().collect()
+}
+
+// Asks of a program what it says to each unsound text and what it shows; for 6, at the same place, it shows nothing.
+pub fn check_terms(judge: impl Fn(&[u8], &[u8]) -> Verdict, show: impl Fn(&[u8], &[u8], Refusal) -> Vec<u8>) {
+    for answered in unsound().into_iter().flat_map(unsound_answers) {
+        check_answer(&judge, &show, &answered);
+        let Answered { name, text, cand, refusal, .. } = answered;
+        let six = Refusal { number: 6, ..refusal.unwrap() };
+        assert_eq!(show(&text, &cand, six), b"", "{name} {}", text.len());
     }
 }
 

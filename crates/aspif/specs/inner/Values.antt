@@ -7,12 +7,21 @@ use Rattle.faults.specs.Answer.{Answer, got, refused}
 use Rattle.faults.specs.Values.{number}
 use Rattle.faults.specs.declared.Step.{Step}
 use Rattle.faults.specs.declared.Step.the-variants.{Good, Refused}
+use Rattle.fields.specs.Reading.{Reading, found}
+use Rattle.fields.specs.inner.Values.{faultOf}
 use Rattle.aspif.specs.Statements.{Line}
 use Rattle.aspif.specs.inner.Words.{allWords}
 use Rattle.aspif.specs.inner.Kept.{Ahead}
 use Rattle.aspif.specs.inner.Bitmap.{atomsOf, EndsAt}
+use Rattle.aspif.specs.declared.lines.Header.{Header}
+use Rattle.aspif.specs.declared.lines.HeaderField.{HeaderField}
+use Rattle.aspif.specs.declared.lines.HeaderField.the-variants as first
 use Rattle.aspif.specs.declared.candidate.Marked.{Marked}
 use Rattle.aspif.specs.declared.candidate.Marked.the-variants as marked
+
+abbrev pub asHeader : HeaderField → Reading Header
+asHeader (first.Got h c) = found h (c .at)
+asHeader (first.Refused r) = faultOf r
 
 -- what the tape holds, and how many lines it has
 pub record Tape : Type 0 where

@@ -3,10 +3,11 @@ use Prim.Native.Nat.{ℕ}
 use mathlib.Core.List.{List}
 use mathlib.Core.Bool.{Bool, not}
 use lib.ListN.{drop}
-use Rattle.fields.specs.Fields.{upTo, isDigit}
+use Rattle.fields.specs.Fields.{byteAt, until, isDigit}
 
-abbrev pub noDigit : ℕ → Bool
-noDigit b = not (isDigit b)
+-- no digit stands first
+abbrev pub noDigit : List ℕ → Bool
+noDigit l = not (isDigit (byteAt l 0))
 
 unfoldable pub digitsAt : List ℕ → ℕ → List ℕ
-digitsAt s at = upTo noDigit (drop at s)
+digitsAt s at = until noDigit (drop at s)

@@ -7,6 +7,9 @@ use Rattle.fields.specs.Reading.{Reading, found, fault}
 use Rattle.fields.specs.inner.Tape.{Written, written}
 use Rattle.fields.specs.declared.Passed.{Passed}
 use Rattle.fields.specs.declared.Passed.the-variants as passed
+use Rattle.fields.specs.declared.LineEnd.{LineEnd}
+use Rattle.fields.specs.declared.EndField.{EndField}
+use Rattle.fields.specs.declared.EndField.the-variants as end
 use Rattle.fields.specs.declared.WordField.{WordField}
 use Rattle.fields.specs.declared.WordField.the-variants as word
 use Rattle.fields.specs.declared.AtomField.{AtomField}
@@ -25,6 +28,10 @@ faultOf r = fault (number (r .kind)) (r .place)
 abbrev pub asPassed : Passed → Reading Unit
 asPassed (passed.Got c) = found tt (c .at)
 asPassed (passed.Refused r) = faultOf r
+
+abbrev pub asEnd : EndField → Reading LineEnd
+asEnd (end.Got e c) = found e (c .at)
+asEnd (end.Refused r) = faultOf r
 
 abbrev pub asWord : WordField → Reading ℕ
 asWord (word.Got v c) = found v (c .at)

@@ -3,7 +3,7 @@ use mathlib.Core.Path.{refl, sym, ap, _∙_}
 use mathlib.Core.Logic.{inl}
 use native.Mathlib.Omega.{arith}
 use borrow.Author.Needs.{needs}
-use Rattle.fields.specs.inner.Values.{asPassed}
+use Rattle.fields.specs.inner.Values.{asPassed, asEnd}
 use Rattle.basics.proofs.Bitmaps.{marks-none}
 use Rattle.aspif.proofs.Candidates.{empty-refused, empty-good, candidate-other}
 use Rattle.aspif.proofs.candidate.candidate.Statement.{statement}
@@ -30,7 +30,7 @@ same-length c = search needs
 returns : tie.Need-returns
 returns c =
     let z = c .before .before .before .before .before .before .before .start .ensures in
-    ((rw z at (c .before .before .ascending .ensures .0)) ∙ candidate-other _ (sym (ap asPassed (c .before .before .before .before .enum-told2 .given .1)) ∙ (rw z at (c .before .before .before .before .before .before .line-end .ensures))), c .before .before .ascending .ensures .1)
+    ((rw z at (c .before .before .ascending .ensures .0)) ∙ candidate-other _ (sym (ap asEnd (c .before .before .before .before .enum-told2 .given .1)) ∙ (rw z at (c .before .before .before .before .before .before .line-end .ensures))), c .before .before .ascending .ensures .1)
 
 ending-requires : tie.Need-ending-requires
 ending-requires c κs = search needs
@@ -47,13 +47,13 @@ refusal-requires c κs = rw (c .enum-told4 .given .1)
 returns-2 : tie.Need-returns-2
 returns-2 c =
     let z = c .before .before .before .before .before .before .before .start .ensures in
-    (empty-refused _ (sym (ap asPassed (c .before .before .before .before .enum-told .given .1)) ∙ (rw z at (c .before .before .before .before .before .before .line-end .ensures))) (sym (c .refusal .ensures) ∙ (rw z at (c .before .before .before .ending .ensures))), tt)
+    (empty-refused _ (sym (ap asEnd (c .before .before .before .before .enum-told .given .1)) ∙ (rw z at (c .before .before .before .before .before .before .line-end .ensures))) (sym (c .refusal .ensures) ∙ (rw z at (c .before .before .before .ending .ensures))), tt)
 
 returns-3 : tie.Need-returns-3
 returns-3 c =
     let z = c .before .before .before .before .before .before .start .ensures in
     let blank = c .before .before .before .before .before .before .before .before .before .pre in
-    (rw (marks-none _ (blank .clear)) (empty-good _ (sym (ap asPassed (c .before .before .before .enum-told .given .1)) ∙ (rw z at (c .before .before .before .before .before .line-end .ensures))) (sym (ap asPassed (c .enum-told3 .given .1)) ∙ (rw z at (c .before .before .ending .ensures)))), record { places = blank .places; small = omega arith; none = λ a h. rw (blank .clear a); marked = inl refl })
+    (rw (marks-none _ (blank .clear)) (empty-good _ (sym (ap asEnd (c .before .before .before .enum-told .given .1)) ∙ (rw z at (c .before .before .before .before .before .line-end .ensures))) (sym (ap asPassed (c .enum-told3 .given .1)) ∙ (rw z at (c .before .before .ending .ensures)))), record { places = blank .places; small = omega arith; none = λ a h. rw (blank .clear a); marked = inl refl })
 
 pub candidate-spec : {M : Type 1} → statement M
 candidate-spec =

@@ -43,7 +43,7 @@ rest-requires c κs =
     (omega arith, omega arith, rw (c .before .before .before .put .kept .0) (omega arith), search needs)
 
 same-length : tie.Need-same-length
-same-length c = c .before .before .rest .kept .1 .1 .0 ∙ c .before .before .before .before .before .before .put .kept .0
+same-length c = c .before .before .rest .kept .1 .1 .1 .0 ∙ c .before .before .before .before .before .before .put .kept .0
 
 returns-2 : tie.Need-returns-2
 unfolding commentLine

@@ -3,8 +3,8 @@ use Prim.Native.Nat.{_-_}
 use mathlib.Core.Path.{_≡_}
 use native.Mathlib.Omega.{arith}
 use borrow.Author.Needs.{needs}
-use Rattle.fields.specs.Fields.{restLength, rest}
-use Rattle.fields.proofs.Naturals.{rest-within}
+use Rattle.fields.specs.Fields.{breaksAt, restLength, rest}
+use Rattle.fields.proofs.Runs.{until-within}
 use Rattle.fields.proofs.Cursor.rest.Statement.{statement}
 use Rattle.fields.proofs.Cursor.rest.Tie as tie
 
@@ -15,8 +15,9 @@ sub-size : tie.Need-sub-size
 sub-size c = search needs
 
 cast-n : tie.Need-cast-n
-unfolding restLength
-cast-n c = omega (arith, rest-within (c .before .before .before .args .s .now) (c .before .before .before .args .self .at) (c .before .before .before .pre .1))
+cast-n c =
+    let args = c .before .before .before .args in
+    omega (arith, until-within (breaksAt 0 (args .ends)) (args .s .now) (args .self .at) (c .before .before .before .pre .1))
 
 listed-requires : tie.Need-listed-requires
 listed-requires c κs = search needs
@@ -30,7 +31,7 @@ returns c =
     let args = c .before .before .before .before .before .before .before .args in
     let run-end = c .before .before .before .before .run-end in
     let listed = c .before .before .listed in
-    let e : run-end .result - args .self .at ≡ restLength (args .s .now) (args .self .at) = omega arith in
+    let e : run-end .result - args .self .at ≡ restLength (args .ends) (args .s .now) (args .self .at) = omega arith in
     (rw (← e) (listed .ensures .0), listed .ensures .1)
 
 pub rest-spec : {M : Type 1} → statement M

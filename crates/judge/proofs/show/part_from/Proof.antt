@@ -18,8 +18,11 @@ part-result-end c = search needs
 returns : tie.Need-returns
 returns c = record { bytes = behind-end (c .before .before .before .args .s .now) ∙ sym (part-out _ _ (c .before .if1 .taken)); block = search needs; offset = search needs }
 
-run-end-requires : tie.Need-run-end-requires
-run-end-requires c κs = search needs
+ends-of-requires : tie.Need-ends-of-requires
+ends-of-requires c κs = search needs
+
+part-end-requires : tie.Need-part-end-requires
+part-end-requires c κs = search needs
 
 sub-result-2 : tie.Need-sub-result-2
 sub-result-2 c = search needs
@@ -28,10 +31,15 @@ part-result-start-2 : tie.Need-part-result-start-2
 part-result-start-2 c = search needs
 
 part-result-end-2 : tie.Need-part-result-end-2
-part-result-end-2 c = let g = part-within (c .before .before .before .args .s .now) (c .before .before .before .args .place) (omega (arith, c .before .if1 .left)) in omega (arith, part-end _ _ (c .run-end .ensures))
+part-result-end-2 c =
+    let args = c .before .before .before .before .args in
+    let g = part-within (args .s .now) (args .place) (omega (arith, c .before .before .if1 .left)) in
+    omega (arith, part-end (args .s .now) (args .place) (c .before .ends-of .ensures) (c .part-end .ensures))
 
 returns-2 : tie.Need-returns-2
-returns-2 c = record { bytes = part-between _ _ _ (part-end _ _ (c .before .run-end .ensures)); block = search needs; offset = search needs }
+returns-2 c =
+    let args = c .before .before .before .before .before .args in
+    record { bytes = part-between _ _ _ (part-end (args .s .now) (args .place) (c .before .before .ends-of .ensures) (c .before .part-end .ensures)); block = search needs; offset = search needs }
 
 pub part-from-spec : {M : Type 1} → statement M
 part-from-spec =
@@ -41,7 +49,8 @@ part-from-spec =
     part-result-start
     part-result-end
     returns
-    run-end-requires
+    ends-of-requires
+    part-end-requires
     sub-result-2
     part-result-start-2
     part-result-end-2
