@@ -58,10 +58,16 @@ def shown(judge, text, cand, number, place):
     return (cand if number == CANDIDATE else text)[start : start + length]
 
 
+def lines(text):
+    """The lines of an accepted text, which all end as the first one does: in byte 10 alone or in 13 10."""
+    end = "\r\n" if text.partition(b"\n")[0].endswith(b"\r") else "\n"
+    return text.decode("utf-8", "replace").split(end)
+
+
 def terms(text):
     """The theory terms of an accepted text by number: a string, or a function and its arguments."""
     found = {}
-    for line in text.decode("utf-8", "replace").split("\n"):
+    for line in lines(text):
         fields = line.split(" ")
         if fields[:2] == ["9", "0"]:
             found[int(fields[2])] = fields[3]

@@ -28,7 +28,9 @@ extern "C" {
 #define PLAN_ABOVE(answer) ((uint32_t)((answer) >> 32))
 #define PLAN_BELOW(answer) ((uint32_t)((answer) & 0xffffffffu))
 
-/* Judges a candidate against a plan text.
+/* Judges a candidate against a plan text. The lines of text end in byte 10 alone or in 13 10, every one as the first;
+ * the one line of cand ends in either, whatever those of text end in. A line end of the other kind is refused at its
+ * first byte, by 3 in text, by 7 in cand.
  * Accepted: 0 above, the timetable's length in bytes below; the timetable stands in the first bytes of room.
  * Refused: the refusal's number above, its place below; after 10 the list of the cycle's atoms stands in the first
  * places of cycle. Nothing else in either room is changed.
@@ -78,7 +80,9 @@ uint64_t plan_time(const uint8_t *table, size_t table_length, uint32_t term);
 /* The faulty part for a refusal: its start above, its length in bytes below; 0 if there is nothing to show. A part that
  * is longer than 2^32 - 1 gives 2^32 - 1.
  * For the numbers 3, 4, 5, 61, 62, 63, 64 and 8 it is a part of text, for 7 a part of cand; for every other number, 6
- * too, and for a place beyond the end, there is nothing. */
+ * too, and for a place beyond the end, there is nothing.
+ * The part runs to before the next byte 10 or to the end. Where the first byte 10 of that text or cand has a 13 right
+ * before it, the part stops before a 13 10 as well, and at the 10 after that 13 there is nothing. */
 uint64_t plan_shown(const uint8_t *text, size_t text_length,
                     const uint8_t *cand, size_t cand_length,
                     uint32_t number, uint32_t place);

@@ -1,5 +1,6 @@
 //! What the grammar wants at a place of the text, of which it was told that something is wrong there.
 
+use crate::ends;
 use crate::text::{Plan, Statement};
 
 const FIRST: &[u8] = b"asp 1 0 0";
@@ -11,28 +12,48 @@ const ELEMENT: &str = "an element number: 0 to 1,023";
 const COUNT: &str = "a count: 0 to 4,096";
 const LENGTH: &str = "the length of a string: 0 to 4,096";
 
+/// What was expected at a place.
+pub struct Expected {
+    /// It in words.
+    pub words: String,
+    /// Whether a line end is right there: as what is expected, or as the end of a comment.
+    pub line_end: bool,
+}
+
+impl Expected {
+    // Something that is no line end.
+    fn within(words: impl Into<String>) -> Expected {
+        Expected { words: words.into(), line_end: false }
+    }
+
+    // The line end, or what goes on up to it.
+    fn to_line_end(words: impl Into<String>) -> Expected {
+        Expected { words: words.into(), line_end: true }
+    }
+}
+
 /// What was expected at a place of the text.
-pub fn expected(plan: &Plan, place: usize) -> String {
+pub fn expected(plan: &Plan, place: usize) -> Expected {
     let index = plan.line_of(place);
     if index == 0 {
         return first(place);
     }
     if plan.lines[..index.min(plan.lines.len())].iter().any(|l| l.statement == Statement::End) {
-        return String::from("nothing: the text ends with the line `0`");
+        return Expected::within("nothing: the text ends with the line `0`");
     }
     let Some(line) = plan.lines.get(index) else {
-        return String::from("a statement: the text ends before its last line `0`");
+        return Expected::within("a statement: the text ends before its last line `0`");
     };
-    let mut walk = Walk { line: plan.line_bytes(index), at: 0, place: place - line.start };
-    walk.statement().err().unwrap_or_else(|| String::from("a statement"))
+    let start = line.span.start;
+    let mut walk = Walk { bytes: &plan.bytes[start..], at: 0, place: place - start };
+    walk.statement().err().unwrap_or_else(|| Expected::within("a statement"))
 }
 
 /// What a construct that is not carried is called in an encoding.
 pub fn construct(plan: &Plan, place: usize) -> String {
     let index = plan.line_of(place);
-    let line = plan.line_bytes(index);
-    let start = plan.lines.get(index).map_or(0, |l| l.start);
-    let kind = line.split(|&b| b == b' ').next().unwrap_or_default();
+    let start = plan.lines.get(index).map_or(0, |l| l.span.start);
+    let kind = ends::field(&plan.bytes[start..]);
     let name = match (index, place == start, kind) {
         (0, _, _) => "a tag in the first line, as `incremental` for a text of several steps",
         (_, true, b"2") => "a minimize statement (`#minimize`, `#maximize` or a weak constraint `:~`)",
@@ -49,19 +70,19 @@ pub fn construct(plan: &Plan, place: usize) -> String {
 }
 
 /// What was expected at a place of the candidate.
-pub fn expected_atom(cand: &[u8], place: usize) -> String {
+pub fn expected_atom(cand: &[u8], place: usize) -> Expected {
     let line_end = cand.iter().position(|&b| b == b'\n');
     if line_end.is_some_and(|end| place > end) {
-        return String::from("nothing: a candidate is one line");
+        return Expected::within("nothing: a candidate is one line");
     }
     let before = cand.get(..place).unwrap_or(cand);
     let starts = before.last().is_none_or(|&b| b == b' ');
     let last = before.split(|&b| b == b' ').rfind(|f| !f.is_empty());
     match (starts, last) {
-        (false, _) => String::from("a space and a further atom, or the line end"),
-        (true, None) => format!("{ATOM}; or the line end alone"),
+        (false, _) => Expected::to_line_end("a space and a further atom, or the line end"),
+        (true, None) => Expected::to_line_end(format!("{ATOM}; or the line end alone")),
         (true, Some(last)) => {
-            format!("an atom above the one before it: a number from {} to 4,096", successor(last))
+            Expected::within(format!("an atom above the one before it: a number from {} to 4,096", successor(last)))
         }
     }
 }
@@ -72,38 +93,37 @@ fn successor(field: &[u8]) -> u64 {
 }
 
 // What the first line wants.
-fn first(place: usize) -> String {
+fn first(place: usize) -> Expected {
     match FIRST.get(place) {
-        Some(&byte) => format!("`{}`: the first line is `asp 1 0 0`", char::from(byte)),
-        None => String::from("the line end: the first line is `asp 1 0 0`"),
+        Some(&byte) => Expected::within(format!("`{}`: the first line is `asp 1 0 0`", char::from(byte))),
+        None => Expected::to_line_end("the line end: the first line is `asp 1 0 0`"),
     }
 }
 
-// Walks along a line; what was expected at the place is the error it ends with.
+// Walks along a line, from its first byte on; what was expected at the place is the error it ends with.
 struct Walk<'a> {
-    line: &'a [u8],
+    bytes: &'a [u8],
     at: usize,
     place: usize,
 }
 
-type Step<T> = Result<T, String>;
+type Step<T> = Result<T, Expected>;
 
 impl Walk<'_> {
     // A field, and its number where it is one.
     fn field(&mut self, what: &str) -> Step<i64> {
         if self.at >= self.place {
-            return Err(String::from(what));
+            return Err(Expected::within(what));
         }
-        let rest = &self.line[self.at.min(self.line.len())..];
-        let length = rest.iter().position(|&b| b == b' ').unwrap_or(rest.len());
-        self.at += length;
-        Ok(std::str::from_utf8(&rest[..length]).ok().and_then(|f| f.parse().ok()).unwrap_or(0))
+        let field = ends::field(&self.bytes[self.at.min(self.bytes.len())..]);
+        self.at += field.len();
+        Ok(std::str::from_utf8(field).ok().and_then(|f| f.parse().ok()).unwrap_or(0))
     }
 
     // The space behind a field that others follow.
     fn space(&mut self, next: &str) -> Step<()> {
         if self.at >= self.place {
-            return Err(format!("a space, and then {next}"));
+            return Err(Expected::within(format!("a space, and then {next}")));
         }
         self.at += 1;
         Ok(())
@@ -135,7 +155,7 @@ impl Walk<'_> {
         self.space(&format!("a string of {length} bytes"))?;
         let end = self.at.saturating_add(usize::try_from(length).unwrap_or(0));
         if self.place < end {
-            return Err(format!("a string of {length} bytes, without the bytes 0 and 10"));
+            return Err(Expected::within(format!("a string of {length} bytes, without the bytes 0 and 10")));
         }
         self.at = end;
         Ok(())
@@ -143,7 +163,7 @@ impl Walk<'_> {
 
     // The line end.
     fn end(&self) -> Step<()> {
-        Err(String::from("the line end"))
+        Err(Expected::to_line_end("the line end"))
     }
 
     // A whole statement.
@@ -164,7 +184,7 @@ impl Walk<'_> {
     // A comment behind its type.
     fn comment(&mut self) -> Step<()> {
         self.space("a comment")?;
-        Err(String::from("a comment without the byte 0, up to a line end"))
+        Err(Expected::to_line_end("a comment without the byte 0, up to a line end"))
     }
 
     // A rule behind its type.

@@ -1,6 +1,6 @@
 //! The report on one answer: the library's verdict, and below it what the verdict means in the words of the encoding.
 
-use crate::expect::{construct, expected, expected_atom};
+use crate::expect::{construct, expected, expected_atom, Expected};
 use crate::judge::{contents, judge, time, Verdict};
 use crate::places::{caret, found, line_at};
 use crate::report::{Atom, Edge, Report, Time};
@@ -104,9 +104,9 @@ fn refused(plan: &Plan, cand: &[u8], set: &Set, (number, place, cycle): (u32, u3
     }
     let lines = match number {
         2 => vec![format!("the text has {} bytes; the judge reads at most {TEXT_BYTES}", plan.bytes.len())],
-        3 => vec![format!("expected {}; found {}", expected(plan, at), found(&plan.bytes, at))],
+        3 => vec![instead(&plan.bytes, at, &expected(plan, at))],
         4 => vec![format!("not carried: {}", construct(plan, at))],
-        5 => vec![format!("beyond its bounds: {} is not {}", found(&plan.bytes, at), expected(plan, at))],
+        5 => vec![beyond(&plan.bytes, at, &expected(plan, at))],
         61..=64 => unsound(plan, number, at).into_iter().collect(),
         7 => malformed(cand, at),
         8 => broken(plan, set, at),
@@ -118,10 +118,19 @@ fn refused(plan: &Plan, cand: &[u8], set: &Set, (number, place, cycle): (u32, u3
     report
 }
 
+// What was expected, and what was found instead of it.
+fn instead(bytes: &[u8], at: usize, expected: &Expected) -> String {
+    format!("expected {}; found {}", expected.words, found(bytes, at, expected))
+}
+
+// What is beyond its bounds, and what they are.
+fn beyond(bytes: &[u8], at: usize, expected: &Expected) -> String {
+    format!("beyond its bounds: {} is not {}", found(bytes, at, expected), expected.words)
+}
+
 // What is wrong in a candidate.
 fn malformed(cand: &[u8], at: usize) -> Vec<String> {
-    let found = found(cand, at);
-    let mut lines = vec![format!("in the answer expected {}; found {found}", expected_atom(cand, at))];
+    let mut lines = vec![format!("in the answer {}", instead(cand, at, &expected_atom(cand, at)))];
     if cand.get(at).is_some_and(|b| !b.is_ascii_digit() && !b.is_ascii_whitespace() && *b != b'-') {
         lines.push(String::from(
             "an answer is the numbers of its atoms: let the solver read what `plan numbered PLAN` writes",

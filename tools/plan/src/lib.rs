@@ -1,6 +1,7 @@
 //! A verdict in the words of the encoding. The linked library alone decides; everything else here is commentary.
 
 pub mod answers;
+pub mod ends;
 pub mod expect;
 pub mod explain;
 pub mod json;

@@ -1,5 +1,6 @@
 //! The text for a solver that is to print numbers: each atom has an output statement that names it by its number.
 
+use crate::ends::End;
 use crate::text::{Plan, Statement};
 
 /// The greatest atom, and the longest string, that the judge reads.
@@ -17,8 +18,7 @@ pub fn numbered(plan: &Plan) -> Vec<u8> {
             outputs(plan, &mut text);
         }
         if i == 0 || i > end || !replaced(&line.statement) {
-            let stop = (line.end + 1).min(plan.bytes.len());
-            text.extend_from_slice(&plan.bytes[line.start..stop]);
+            text.extend_from_slice(&plan.bytes[line.span.start..line.span.next]);
         }
     }
     text
@@ -33,10 +33,12 @@ fn replaced(statement: &Statement) -> bool {
     name.len() <= MOST as usize && literals.len() <= MOST as usize && !name.contains(&0) && literals.iter().all(small)
 }
 
-// An output statement for each atom that stands in the text.
+// An output statement for each atom that stands in the text, with the text's own line end.
 fn outputs(plan: &Plan, text: &mut Vec<u8>) {
+    let end = End::of(&plan.bytes);
     for atom in plan.atoms() {
         let name = atom.to_string();
-        text.extend_from_slice(format!("4 {} {name} 1 {atom}\n", name.len()).as_bytes());
+        text.extend_from_slice(format!("4 {} {name} 1 {atom}", name.len()).as_bytes());
+        text.extend_from_slice(end.bytes());
     }
 }

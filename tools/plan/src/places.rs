@@ -1,5 +1,7 @@
 //! A place as a line, a column and a caret.
 
+use crate::ends::{self, lines, End, Span};
+use crate::expect::Expected;
 use crate::names::plain;
 use crate::report::LineAt;
 
@@ -9,16 +11,17 @@ const BESIDE: usize = 60;
 /// The line and the column of a place in some bytes.
 pub fn line_at(bytes: &[u8], place: usize) -> LineAt {
     let place = place.min(bytes.len());
-    let start = bytes[..place].iter().rposition(|&b| b == b'\n').map_or(0, |i| i + 1);
-    let end = bytes[place..].iter().position(|&b| b == b'\n').map_or(bytes.len(), |i| place + i);
-    let number = bytes[..start].iter().filter(|&&b| b == b'\n').count() + 1;
+    let lines = lines(bytes);
+    let index = lines.iter().position(|l| l.reaches(place)).unwrap_or(lines.len());
+    let behind = Span { start: bytes.len(), end: bytes.len(), next: bytes.len() };
+    let Span { start, end, .. } = *lines.get(index).unwrap_or(&behind);
     let line = &bytes[start..end];
-    LineAt { number, text: String::from_utf8_lossy(line).into_owned(), column: column(line, place - start) }
+    LineAt { number: index + 1, text: String::from_utf8_lossy(line).into_owned(), column: column(line, place - start) }
 }
 
-// The column of a byte of a line, from 1: characters count once, and so does what is not UTF-8.
+// The column of a byte of a line or of its line end, from 1: characters count once, and so does what is not UTF-8.
 fn column(line: &[u8], at: usize) -> usize {
-    if at == line.len() {
+    if at >= line.len() {
         return String::from_utf8_lossy(line).chars().count() + 1;
     }
     let (mut start, mut count) = (0, 0);
@@ -55,26 +58,44 @@ pub fn caret(line: &LineAt) -> [String; 2] {
 }
 
 /// What stands at a place, in words.
-pub fn found(bytes: &[u8], place: usize) -> String {
+pub fn found(bytes: &[u8], place: usize, expected: &Expected) -> String {
     let Some(&byte) = bytes.get(place) else {
         return String::from("the end");
     };
+    if let Some(end) = End::begins(&bytes[place..]) {
+        return line_end(bytes, place, end, expected);
+    }
     match byte {
-        b'\n' => String::from("the line end"),
         b' ' => String::from("a space"),
         b'\t' => String::from("a tab"),
-        b'\r' => String::from("a carriage return (byte 13)"),
+        b'\r' => String::from("a carriage return (byte 13), which without byte 10 behind it is no line end"),
         0 => String::from("the byte 0"),
         _ => field(&bytes[place..]),
     }
 }
 
+// The line end at a place, and where it is of the other kind, which that is: if a line end is right there, also which the
+// first line has.
+fn line_end(bytes: &[u8], place: usize, end: End, expected: &Expected) -> String {
+    let first = End::of(bytes);
+    match end {
+        _ if end == first => String::from("the line end"),
+        End::Feed if bytes[..place].ends_with(b"\r") => {
+            String::from("the byte 10 of a line end whose byte 13 the string has taken")
+        }
+        _ if expected.line_end => {
+            format!("a line end of {}; the first line ends in {}, and so must every line", end.words(), first.words())
+        }
+        _ => format!("a line end of {}", end.words()),
+    }
+}
+
 // The field at the beginning of some bytes, and what in it does not print.
 fn field(bytes: &[u8]) -> String {
-    let length = bytes.iter().position(|&b| b == b' ' || b == b'\n').unwrap_or(bytes.len());
-    let field = &bytes[..length];
-    let shown = if length > BESIDE { plain(&field[..BESIDE]) + ".." } else { plain(field) };
+    let field = ends::field(bytes);
+    let shown = if field.len() > BESIDE { plain(&field[..BESIDE]) + ".." } else { plain(field) };
     match field.iter().find(|b| b.is_ascii_control()) {
+        Some(b'\r') => format!("`{shown}`, with the byte 13 in it, which without byte 10 behind it is no line end"),
         Some(byte) => format!("`{shown}`, with the byte {byte} in it"),
         None => format!("`{shown}`"),
     }

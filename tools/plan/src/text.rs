@@ -1,12 +1,12 @@
 //! What a plan text says, read leniently for commentary: a line that is not understood is kept as `Other`.
 
+use crate::ends::{lines, End, Span};
 use std::collections::{BTreeMap, BTreeSet};
 
-/// A line without its line end: the bytes from `start` to before `end`.
+/// A line: where it stands, and what it says.
 #[derive(Clone, Debug, PartialEq, Eq)]
 pub struct Line {
-    pub start: usize,
-    pub end: usize,
+    pub span: Span,
     pub statement: Statement,
 }
 
@@ -60,14 +60,8 @@ impl Plan {
     /// Reads a plan text; every text gives a plan.
     pub fn new(bytes: &[u8]) -> Plan {
         let mut plan = Plan { bytes: bytes.to_vec(), ..Plan::default() };
-        let mut start = 0;
-        for part in bytes.split(|&b| b == b'\n') {
-            let end = start + part.len();
-            if end < bytes.len() || !part.is_empty() {
-                plan.lines.push(Line { start, end, statement: statement(part) });
-            }
-            start = end + 1;
-        }
+        let own = End::of(bytes).bytes();
+        plan.lines = lines(bytes).into_iter().map(|span| Line { span, statement: said(bytes, span, own) }).collect();
         plan.index();
         plan
     }
@@ -102,12 +96,12 @@ impl Plan {
 
     /// The line in which a place stands, its line end included; the count of lines where there is none.
     pub fn line_of(&self, place: usize) -> usize {
-        self.lines.iter().position(|l| place <= l.end).unwrap_or(self.lines.len())
+        self.lines.iter().position(|l| l.span.reaches(place)).unwrap_or(self.lines.len())
     }
 
     /// The bytes of a line, without its line end.
     pub fn line_bytes(&self, line: usize) -> &[u8] {
-        self.lines.get(line).map_or(&[], |l| &self.bytes[l.start..l.end])
+        self.lines.get(line).map_or(&[], |l| &self.bytes[l.span.start..l.span.end])
     }
 
     /// The statement of a line.
@@ -380,6 +374,14 @@ fn natural(field: &[u8]) -> Option<u32> {
     let plain = !field.is_empty() && field.iter().all(u8::is_ascii_digit) && (field[0] != b'0' || field.len() == 1);
     let number: u32 = std::str::from_utf8(field).ok().filter(|_| plain)?.parse().ok()?;
     (number <= i32::MAX as u32).then_some(number)
+}
+
+// The statement of a line of a text; `Other` where its line end is not the text's own.
+fn said(bytes: &[u8], span: Span, own: &[u8]) -> Statement {
+    match &bytes[span.end..span.next] {
+        end if end.is_empty() || end == own => statement(&bytes[span.start..span.end]),
+        _ => Statement::Other,
+    }
 }
 
 // The statement of a line; `Other` unless the whole line is one.

@@ -72,7 +72,7 @@ fn twice(plan: &Plan, line: usize) -> Option<String> {
 
 // The number that stands at a place, what it is used as, and where it is defined too late, if it is.
 fn undefined(plan: &Plan, line: usize, at: usize) -> Option<String> {
-    let before = plan.bytes.get(plan.lines.get(line)?.start..at)?;
+    let before = plan.bytes.get(plan.lines.get(line)?.span.start..at)?;
     let field = before.iter().filter(|&&b| b == b' ').count();
     let Use { number, role, .. } = uses(plan, plan.statement(line)).into_iter().find(|u| u.field == field)?;
     let used = format!("{number} is used here, as {role}");

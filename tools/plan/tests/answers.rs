@@ -16,7 +16,7 @@ const HEAD: &str = "clasp version 3.3.5\nReading from stdin\nSolving...\n";
 
 #[test]
 fn a_candidate_is_taken_as_it_is() {
-    for bytes in ["", "\n", "1 2 3\n", "3 1", "a b\n", "\u{0}", "Answers: 1\n"] {
+    for bytes in ["", "\n", "\r\n", "1 2 3\n", "1 2 3\r\n", "1 2\r", "3 1", "a b\n", "\u{0}", "Answers: 1\n"] {
         assert_eq!(read(bytes.as_bytes()), Answers::Candidate(bytes.as_bytes().to_vec()));
     }
 }
@@ -26,7 +26,18 @@ fn every_answer_of_an_output() {
     let text = format!("{HEAD}Answer: 1\n3 1 20\nAnswer: 2 (Time: 0.001s)\n\nSATISFIABLE\n\nModels : 2\n");
     let (answers, status) = solver(&text);
     assert_eq!((answers, status), (vec![String::from("1 3 20\n"), String::from("\n")], Status::Satisfiable));
-    assert_eq!(solver("Answer: 1\r\n2 1\r\nOPTIMUM FOUND\r\n"), (vec![String::from("1 2\n")], Status::Optimum));
+}
+
+#[test]
+fn an_output_of_the_other_desk_is_read_alike() {
+    for text in [
+        format!("{HEAD}Answer: 1\n3 1 20\nAnswer: 2\n\nSATISFIABLE\n\nModels : 2\n"),
+        String::from("Answer: 1\n2 1 dl(x,5) send(a)\nOPTIMUM FOUND\n"),
+        String::from("2 1\n\nSATISFIABLE\n"),
+        format!("{HEAD}UNKNOWN\n"),
+    ] {
+        assert_eq!(solver(&text.replace('\n', "\r\n")), solver(&text));
+    }
 }
 
 #[test]

@@ -1,7 +1,7 @@
 //! The encodings of examples/, as gringo grounded them and clasp answered: verdicts, names, warnings, pictures.
 
 mod common;
-use common::{comment, on};
+use common::{comment, on, other_desk};
 
 use plan::answers::{read, Answers};
 use plan::report::Report;
@@ -19,13 +19,18 @@ fn own(name: &str) -> Report {
     on(&file(&format!("examples/{name}.aspif")), &file(&format!("examples/{name}.cand")))
 }
 
-// What is said of each answer that clasp gave.
-fn all(name: &str) -> Vec<Report> {
-    let text = file(&format!("examples/{name}.aspif"));
-    let Answers::Solver { answers, .. } = read(file(&format!("examples/{name}.answers")).as_bytes()) else {
+// What is said of each answer that clasp gave, with the text and the answers from one desk or the other.
+fn all_from(name: &str, desk: fn(&str) -> String) -> Vec<Report> {
+    let text = desk(&file(&format!("examples/{name}.aspif")));
+    let Answers::Solver { answers, .. } = read(desk(&file(&format!("examples/{name}.answers"))).as_bytes()) else {
         panic!("{name}: no solver's output");
     };
     answers.iter().map(|a| on(&text, std::str::from_utf8(a).unwrap())).collect()
+}
+
+// The same, with the files as they are.
+fn all(name: &str) -> Vec<Report> {
+    all_from(name, str::to_string)
 }
 
 // The first line of each.
@@ -90,6 +95,14 @@ fn the_flow_shop_has_its_published_times() {
     found.sort();
     wanted.sort();
     assert_eq!((wanted.len(), found), (6, wanted));
+}
+
+#[test]
+fn from_the_other_desk_the_same_is_said() {
+    for name in ["network", "network_too_many", "cardinality", "unevaluated"].map(|n| format!("phasor/{n}")) {
+        assert_eq!(all_from(&name, other_desk), all(&name), "{name}");
+    }
+    assert_eq!(all_from("flowshop/flowshop", other_desk), all("flowshop/flowshop"));
 }
 
 #[test]

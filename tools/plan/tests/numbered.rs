@@ -1,7 +1,7 @@
 //! Numbered texts: what they hold, and that they are judged as the texts they were made of.
 
 mod common;
-use common::{only, p_with, P};
+use common::{on, only, other_desk, p_with, P};
 use plan::judge::{judge, Verdict};
 use plan::numbered::numbered;
 use plan::text::Plan;
@@ -83,7 +83,19 @@ fn cases() -> Vec<(String, &'static str, u32)> {
 #[test]
 fn a_numbered_text_is_judged_alike() {
     for (text, cand, verdict) in cases() {
-        assert_eq!(number(&text, cand), verdict, "{text}");
-        assert_eq!(number(&of(&text), cand), verdict, "{}", of(&text));
+        for text in [other_desk(&text), text] {
+            assert_eq!(number(&text, cand), verdict, "{text}");
+            assert_eq!(number(&of(&text), cand), verdict, "{}", of(&text));
+        }
     }
+}
+
+#[test]
+fn outputs_end_as_the_text_does() {
+    for text in [P, NET] {
+        assert_eq!(of(&other_desk(text)), other_desk(&of(text)));
+    }
+    let mixed = other_desk(&only(&["4 1 a 1 1", "4 1 b 1 2"])).replace("a 1 1\r\n", "a 1 1\n");
+    assert_eq!(of(&mixed), "asp 1 0 0\r\n4 1 a 1 1\n4 1 2 1 2\r\n0\r\n");
+    assert_eq!((on(&mixed, "\n").first, on(&of(&mixed), "\n").first), ("refused 3 20".into(), "refused 3 20".into()));
 }

@@ -1,7 +1,7 @@
 //! The program run: exit statuses, what stands on which output, closed pipes.
 
 mod common;
-use common::{comment, on, P};
+use common::{comment, on, other_desk, P};
 use plan::{json, svg};
 use std::io::Write;
 use std::path::PathBuf;
@@ -62,6 +62,21 @@ fn check_of_an_output() {
     let (status, out, _) = said(&run(&folder, &["check", "--json", "p.aspif", "-"], output));
     let objects = ["1 2 3\n", "3\n", "1 3\n"].map(|c| json::object(&on(P, c)) + "\n");
     assert_eq!((status, out), (1, objects.concat()));
+    let _ = std::fs::remove_dir_all(folder);
+}
+
+#[test]
+fn files_of_the_other_desk_print_the_same() {
+    let folder = folder("desk");
+    std::fs::write(folder.join("p.other"), other_desk(P)).unwrap();
+    let output = "clasp version 3.3.5\nAnswer: 1\n3 2 1\nAnswer: 2\n1 3\nSATISFIABLE\n";
+    for answers in ["1 2 3\n", output] {
+        let same = said(&run(&folder, &["check", "p.aspif", "-"], answers));
+        let (status, out, err) = said(&run(&folder, &["check", "p.other", "-"], &other_desk(answers)));
+        assert_eq!((status, out.replace("refused 8 24", "refused 8 22"), err), same);
+    }
+    let (_, numbered, _) = said(&run(&folder, &["numbered", "p.aspif"], ""));
+    assert_eq!(said(&run(&folder, &["numbered", "p.other"], "")).1, other_desk(&numbered));
     let _ = std::fs::remove_dir_all(folder);
 }
 

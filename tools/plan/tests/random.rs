@@ -1,7 +1,7 @@
 //! Random bytes and damaged texts as plans and as answers: everything ends, and nothing panics.
 
 mod common;
-use common::{Random, P};
+use common::{other_desk, Random, P};
 use plan::answers::{read, Answers};
 use plan::explain::report;
 use plan::json::object;
@@ -18,7 +18,7 @@ const NET: &str = include_str!("data/net.aspif");
 const BYTES: usize = 100_000;
 
 /// The bytes that a text is made of mostly.
-const USUAL: &[u8] = b"0123456789 0123456789 -\n\n\"ab(<=";
+const USUAL: &[u8] = b"0123456789 0123456789 -\n\n\r\"ab(<=";
 
 // Some random bytes: any, or those that texts are made of.
 fn bytes(random: &mut Random, length: usize) -> Vec<u8> {
@@ -57,6 +57,7 @@ fn tried(text: &[u8], cand: &[u8]) -> Report {
     assert_eq!((report.number, report.accepted), (number_of, number_of == 0));
     assert_eq!(number(&numbered(&plan), cand), number_of, "{}", String::from_utf8_lossy(text));
     assert!(!(61..=64).contains(&number_of) || report.comment.len() == 3, "{:?}", report.comment);
+    assert!(report.comment.iter().all(|l| !l.contains(char::is_control)), "{:?}", report.comment);
     let _ = (object(&report), picture(&report));
     for line in 0..plan.lines.len() {
         let _ = (plan.rule(line), plan.theory_atom(line), plan.difference_at(line));
@@ -110,7 +111,8 @@ fn damaged_plans_and_candidates() {
     let mut seen = BTreeSet::new();
     for _ in 0..4_000 {
         let (text, cand) = if random.below(2) == 0 { (P, "1 2 3\n") } else { (NET, "1 2 3 4 7 8\n") };
-        let (mut text, mut cand) = (text.as_bytes().to_vec(), cand.as_bytes().to_vec());
+        let mut desk = |text: &str| if random.below(2) == 0 { other_desk(text) } else { String::from(text) };
+        let (mut text, mut cand) = (desk(text).into_bytes(), desk(cand).into_bytes());
         match random.below(4) {
             0 => cand = damaged(&mut random, &cand),
             _ => text = damaged(&mut random, &text),
@@ -122,7 +124,7 @@ fn damaged_plans_and_candidates() {
 
 #[test]
 fn every_beginning_of_a_plan() {
-    for text in [P, NET] {
+    for text in [String::from(P), String::from(NET), other_desk(P), other_desk(NET)] {
         for end in 0..text.len() {
             let report = tried(&text.as_bytes()[..end], b"1 2 3\n");
             assert!(report.number == 3 && report.comment.len() == 3, "{:?}", report.comment);

@@ -97,7 +97,7 @@ fn three_at_the_ends_of_the_text() {
         &["line 1: \n        ^", "expected `a`: the first line is `asp 1 0 0`; found the end"],
     );
     told("asp 1 0 1\n0\n", "\n", "refused 3 8", &["        ^", "expected `0`", "found `1`"]);
-    told("asp 1 0 0\r\n0\r\n", "\n", "refused 3 9", &["expected the line end", "a carriage return (byte 13)"]);
+    told("asp 1 0 0\t\n0\n", "\n", "refused 3 9", &["expected the line end", "found a tab"]);
     told("asp 1 0 0\n", "\n", "refused 3 10", &["line 2: ", "its last line `0`; found the end"]);
     told(
         "asp 1 0 0\n0\n0\n",

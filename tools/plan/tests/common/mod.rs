@@ -20,6 +20,11 @@ pub fn only(lines: &[&str]) -> String {
     format!("asp 1 0 0\n{}\n0\n", lines.join("\n"))
 }
 
+/// A text or a candidate from the other desk: each byte 10 with a 13 before it.
+pub fn other_desk(text: &str) -> String {
+    text.replace('\n', "\r\n")
+}
+
 /// The report on a text and a candidate.
 pub fn on(text: &str, cand: &str) -> Report {
     report(&Plan::new(text.as_bytes()), cand.as_bytes())
