@@ -2,30 +2,30 @@
 use Prim.Native.Nat.{ℕ, zero, suc, _+_, _<_}
 use mathlib.Core.Path.{_≡_, refl, sym, ap, _∙_}
 use mathlib.Core.Bool.{Bool, true, false, _||_, _&&_}
-use mathlib.Core.List.{List, [], _∷_}
+use mathlib.Core.List.{List, [], _∷_, _++_}
 use native.Mathlib.Omega.{arith}
 use native.Mathlib.Nat.{zero-add}
-use borrow.Author.Tests.{ne-eqb, eqb-true, ltb-false}
+use borrow.Author.Tests.{eq-eqb, ne-eqb, eqb-true, eqb-false, ltb-false}
 use lib.Dec.{eqb, leb, ltb, lit<}
 use lib.ListN.{length, take, drop, length-take}
 use lib.Seq.{drop-drop}
 use Rattle.basics.specs.Bools.{pick}
-use Rattle.basics.specs.Lists.{All}
+use Rattle.basics.specs.Lists.{All, NotIn}
 use Rattle.basics.proofs.Bools.{or-neither}
 use Rattle.faults.specs.Limits.{lastAtom}
 use Rattle.faults.specs.Answer.{got}
 use Rattle.fields.specs.declared.LineEnd.{LineEnd}
 use Rattle.fields.specs.declared.LineEnd.the-variants as by
 use Rattle.fields.specs.Reading.{Reading, found, fault, isFound, andThen}
-use Rattle.fields.specs.Fields.{space, feed, return, byteAt, byte, bytes, textEnd, until, endsLine, lineEnd, firstEnd, endsOf, endsField, field, isNatural, value, natural}
+use Rattle.fields.specs.Fields.{space, feed, return, byteAt, byte, bytes, textEnd, until, returnFeed, endsLine, lineEnd, firstEnd, endsOf, endsField, field, isNatural, value, natural}
 use Rattle.fields.proofs.Runs.{run-stop, run-more}
-use Rattle.fields.proofs.LineEnds.{byte-here, byte-on, ends-return, ends-feed}
+use Rattle.fields.proofs.LineEnds.{ends-here, ends-return, ends-feed}
 use Rattle.fields.proofs.Naturals.{byte-read, there}
 use Rattle.fields.proofs.Readers.{reads-ends, lineEnd-reads}
 use Rattle.aspif.specs.declared.lines.Header.{Header}
 use Rattle.aspif.specs.Grammar.{opening, noTag, firstLine, answer}
 use Rattle.aspif.specs.Candidate.{sevenfold, atomAbove, ending, ascending, candidateLine, candidate}
-use Rattle.aspif.specs.Ends.{TextMet, CandidateMet}
+use Rattle.aspif.specs.Ends.{ReturnFirst, ByFirstFeed, TextMet, CandidateMet}
 use Rattle.aspif.proofs.Fronts.{near-line, byte-front}
 
 -- ---- the first line end from a place on
@@ -33,10 +33,6 @@ use Rattle.aspif.proofs.Fronts.{near-line, byte-front}
 -- stands at n
 abbrev FirstEnd : List ℕ → (at n : ℕ) → Type 0
 FirstEnd s at n = n ≡ at + length (until endsLine (drop at s))
-
--- what stands at a place, by its bytes
-ends-here : (s : List ℕ) (at : ℕ) → endsLine (drop at s) ≡ eqb (byteAt s at) feed || (eqb (byteAt s at) return && eqb (byteAt s (at + 1)) feed)
-ends-here s at = rw (byte-here s at, byte-on s at 1)
 
 -- a line end that is met stands there, and its first byte says which it is
 data Met (s : List ℕ) (n : ℕ) : LineEnd → Type 0 where
@@ -121,7 +117,7 @@ text-met s first n e = go (bytes opening s 0) refl e
 
 -- ---- the candidate
 
--- where a line end is none of what ends bytes, these are passed over
+-- if f stops only where g does, the bytes before f are those before g and, from there on, those before f
 until-further : (f g : List ℕ → Bool) → ((l : List ℕ) → g l ≡ false → f l ≡ false) → (l : List ℕ)
     → length (until f l) ≡ length (until g l) + length (until f (drop (length (until g l)) l))
 unfolding until
@@ -292,3 +288,50 @@ candidate-met s vs p l e = go (candidateLine (take p s) 0) refl e
     go : (a : Reading (List ℕ)) → candidateLine (take p s) 0 ≡ a → answer a ≡ got vs → lineEnd s (firstEnd s) ≡ found (endsOf s) p
     go (found ws n) d i = whole (candidate-ends (take p s) ws n d)
     go (fault k q) d i = let z : _≡_ {A = ℕ} 0 1 = (cc) in absurd (omega arith)
+
+-- ---- by the first byte 10
+
+-- behind bytes of which none is 10 the next is not 10 either, if it is 13
+next-other : (bs back : List ℕ) → NotIn feed bs → eqb (byteAt (bs ++ (return ∷ feed ∷ back)) 0) feed ≡ false
+unfolding byteAt
+next-other [] back h = refl
+next-other (b ∷ bs) back h = ne-eqb b feed (λ e. h .0 (sym e))
+
+return-first : (front back : List ℕ) → NotIn feed front → byteAt (front ++ (return ∷ feed ∷ back)) (firstEnd (front ++ (return ∷ feed ∷ back))) ≡ return
+unfolding until byteAt
+return-first [] back h = refl
+return-first (b ∷ bs) back h = go (return-first bs back (h .1)) (ne-eqb b feed (λ e. h .0 (sym e))) (next-other bs back (h .1)) (eqb b return)
+  where
+    go : byteAt (bs ++ (return ∷ feed ∷ back)) (firstEnd (bs ++ (return ∷ feed ∷ back))) ≡ return → eqb b feed ≡ false
+        → eqb (byteAt (bs ++ (return ∷ feed ∷ back)) 0) feed ≡ false → (u : Bool)
+        → byteAt (b ∷ bs ++ (return ∷ feed ∷ back))
+        (length (pick (eqb b feed || (u && eqb (byteAt (bs ++ (return ∷ feed ∷ back)) 0) feed)) [] (b ∷ until endsLine (bs ++ (return ∷ feed ∷ back)))))
+        ≡ return
+    go r p q true = rw (p, q) r
+    go r p q false = rw p r
+
+first-return : (s : List ℕ) → byteAt s (firstEnd s) ≡ return → ReturnFirst s
+unfolding until byteAt
+first-return [] e = absurd (omega arith)
+first-return (b ∷ bs) e = go (endsLine (b ∷ bs)) refl (first-return bs) e
+  where
+    here : (cs : List ℕ) → b ≡ return → endsLine (b ∷ cs) ≡ true → ReturnFirst (b ∷ cs)
+    here [] z q = let g = rw z at q in let y : _≡_ {A = ℕ} 0 1 = (cc) in absurd (omega arith)
+    here (c ∷ cs) z q =
+        let g : eqb c feed ≡ true = rw z at q in
+        record { front = []; back = cs; is = rw (z, eqb-true c feed g); none = tt }
+
+    go : (t : Bool) → endsLine (b ∷ bs) ≡ t → (byteAt bs (firstEnd bs) ≡ return → ReturnFirst bs)
+        → byteAt (b ∷ bs) (length (pick t [] (b ∷ until endsLine bs))) ≡ return → ReturnFirst (b ∷ bs)
+    go true q r d = here bs d q
+    go false q r d =
+        let w = r d in
+        record { front = b ∷ w .front; back = w .back; is = ap {B = List ℕ} (λ l. b ∷ l) (w .is); none = ((λ z. eqb-false b feed (or-neither (eqb b feed) (returnFeed (b ∷ bs) 0) q .0) (sym z)), w .none) }
+
+pub by-first-feed : ByFirstFeed
+unfolding endsOf
+by-first-feed s = ((λ w. rw (eq-eqb _ _ (rw (← (w .is)) at (return-first (w .front) (w .back) (w .none))))), λ e. first-return s (go (eqb (byteAt s (firstEnd s)) return) refl e))
+  where
+    go : (t : Bool) → eqb (byteAt s (firstEnd s)) return ≡ t → pick t by.Return by.Feed ≡ by.Return → byteAt s (firstEnd s) ≡ return
+    go true q e = eqb-true _ _ q
+    go false q e = let z : _≡_ {A = ℕ} 0 1 = (cc) in absurd (omega arith)

@@ -2,13 +2,13 @@
 use Prim.Native.Nat.{ℕ, _+_}
 use mathlib.Core.Path.{_≡_, refl, sym, ap, _∙_}
 use mathlib.Core.List.{List}
-use mathlib.Core.Bool.{Bool, true, false, _||_, _&&_}
+use mathlib.Core.Bool.{Bool, true, false, _||_}
 use native.Mathlib.Nat.{add-zero, zero-add}
 use borrow.Author.Tests.{eq-eqb, ne-eqb}
 use lib.Dec.{eqb}
 use lib.ListN.{length, drop}
 use lib.Seq.{getD-drop}
-use Rattle.fields.specs.Fields.{feed, return, byteAt, until, endsLine, breaks, breaksAt, endsOf}
+use Rattle.fields.specs.Fields.{feed, return, byteAt, until, returnFeed, endsLine, breaks, breaksAt, endsOf}
 use Rattle.fields.specs.declared.LineEnd.{LineEnd}
 use Rattle.fields.specs.declared.LineEnd.the-variants as by
 use Rattle.fields.proofs.Runs.{until-same}
@@ -21,6 +21,10 @@ byte-on s at k = getD-drop at s k 0
 pub byte-here : (s : List ℕ) (at : ℕ) → byteAt (drop at s) 0 ≡ byteAt s at
 byte-here s at = byte-on s at 0 ∙ ap (byteAt s) (add-zero at)
 
+-- a line end at a place, by its bytes
+pub ends-here : (s : List ℕ) (at : ℕ) → endsLine (drop at s) ≡ eqb (byteAt s at) feed || returnFeed s at
+ends-here s at = rw (byte-here s at, byte-on s at 1)
+
 -- a feed, or the end of a line, is the end of a line
 breaks-feed : (e : LineEnd) (l : List ℕ) → breaksAt feed e l ≡ breaks e l
 breaks-feed by.Feed l = go (eqb (byteAt l 0) feed)
@@ -28,7 +32,7 @@ breaks-feed by.Feed l = go (eqb (byteAt l 0) feed)
     go : (t : Bool) → t || t ≡ t
     go true = refl
     go false = refl
-breaks-feed by.Return l = go (eqb (byteAt l 0) feed) (eqb (byteAt l 0) return && eqb (byteAt l 1) feed)
+breaks-feed by.Return l = go (eqb (byteAt l 0) feed) (returnFeed l 0)
   where
     go : (t u : Bool) → t || (t || u) ≡ t || u
     go true u = refl
