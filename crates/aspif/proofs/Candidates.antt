@@ -5,7 +5,7 @@ use mathlib.Core.Logic.{inr}
 use mathlib.Core.List.{List, [], ◌∷◌, ◌++◌, append_assoc}
 use mathlib.Core.Bool.{Bool, true, false, ◌&&◌}
 use native.Mathlib.Omega.{arith}
-use borrow.Author.Tests.{eq-eqb, ne_eqb, eqb-true, eqb-false, leb-true, leb-false, ltb-true, le_leb, lt-leb}
+use borrow.Author.Tests.{eq-eqb, ne_eqb, eqb-true, eqb-false, leb-true, leb-false, ltb-true, le-leb, lt-leb}
 use lib.Dec.{eqb, leb, ltb, lit<}
 use lib.ListN.{length, get_or, set, replicate, length-set, length-replicate}
 use lib.Seq.{get_or-set_same, get_or-set_other}
@@ -73,7 +73,7 @@ module _ (low : ℕ) (s : List ℕ) (at : ℕ) where
 
   pub above_low : {v n : ℕ} → found v n ≡ natural 7 last_atom s at → v ≤ low → fault 7 at ≡ atom_above low s at
   unfolding atom_above
-  above_low {v} e l = rw (← e, le_leb v low l)
+  above_low {v} e l = rw (← e, le-leb v low l)
 
   pub above_good : {v n : ℕ} → found v n ≡ natural 7 last_atom s at → low < v → found v n ≡ atom_above low s at
   unfolding atom_above

@@ -13,7 +13,7 @@ use faults::{AtomNo, Kind, LAST_ATOM, Refusal};
 use fields::{AtomField, Cursor, EndField, Passed, SPACE, WordField};
 
 // What marking the atoms gives: the last of them, or 0 where there is none.
-#[derive(Drop)]
+#[derive(Clone, Copy)]
 pub enum Marked {
     Done(AtomNo),
     Refused(Refusal),

@@ -18,13 +18,13 @@ use faults::{Kind, Refusal, Step};
 use fields::{Cursor, EndField, LineEnd, Passed, SPACE, WordField, Wrote};
 
 // What the first line says: how the lines end.
-#[derive(Drop)]
+#[derive(Clone, Copy)]
 pub struct Header {
     pub ends: LineEnd,
 }
 
 // What reading the first line finds.
-#[derive(Drop)]
+#[derive(Clone, Copy)]
 pub enum HeaderField {
     Got(Header, Cursor),
     Refused(Refusal),

@@ -1,6 +1,6 @@
 -- Laws of bitmaps: the marked numbers of a blank one, of one with one more mark, of a front, and which numbers are marked. Assumes nothing.
 use Prim.Native.Nat.{ℕ, zero, suc, ◌+◌, ◌≤◌, ◌<◌}
-use mathlib.Core.Path.{◌≡◌, refl, sym, ◌∙◌}
+use mathlib.Core.Path.{◌≡◌, refl, sym, subst, ◌∙◌}
 use mathlib.Core.List.{List, [], ◌∷◌, ◌++◌}
 use mathlib.Core.Bool.{Bool, true, false, ◌||◌}
 use native.Mathlib.Omega.{arith}
@@ -87,7 +87,7 @@ holds-from i (b ∷ bs) (suc a) = go (eqb b 1) (holds-from (i + 1) bs a)
 
     go : (t : Bool) → among (i + 1 + a) (marks (i + 1) bs) ≡ eqb (get_or bs a 0) 1
         → among (i + suc a) (pick t (i ∷ marks (i + 1) bs) (marks (i + 1) bs)) ≡ eqb (get_or bs a 0) 1
-    go true e = rw (ne_eqb (i + suc a) i (λ f. omega arith), d) e
+    go true e = rw (ne_eqb (i + suc a) i (λ f. omega arith)) (subst (λ n. among n (marks (i + 1) bs) ≡ eqb (get_or bs a 0) 1) (sym d) e)
     go false e = rw d e
 
 -- among the marked numbers are exactly the places where 1 stands

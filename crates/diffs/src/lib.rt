@@ -1,5 +1,6 @@
 // The earliest times that keep differences x - y ≤ k, or a negative cycle.
 // Difference number i is xs[i] - ys[i] ≤ ks[i]. A cycle is shown from its smallest keys[i] on, and labels[i] is the number that shows the difference.
+#![tactic(auto)]
 ghost use Rattle.std.specs.Prelude.{◌≡◌, List, map, ℕ, ◌-◌, ◌<◌, ◌≤◌, ◌^◌, min, length};
 ghost use Rattle.std.proofs.Math.Seq.{slice};
 ghost use Rattle.faults.specs.inner.Places.{term_places};
@@ -52,7 +53,7 @@ fn relax(x: TermNo, y: TermNo, k: i32, i: u32, t: &mut [u64], p: &mut [u32]) -> 
 }
 
 // What was raised last: nothing, or a name.
-#[derive(Drop)]
+#[derive(Clone, Copy)]
 enum Raised {
     Quiet,
     Name(TermNo),
@@ -135,7 +136,7 @@ fn sum_of(ks: &[i32], w: &[u32], start: usize, end: usize) -> i64
 }
 
 // A part of a slice, from a place to before another, and the sum of the bounds that it lists.
-#[derive(Drop)]
+#[derive(Clone, Copy)]
 struct Walk {
     start: usize,
     end: usize,
@@ -207,7 +208,7 @@ fn lay(keys: &[u32], labels: &[u32], w: &[u32], start: usize, end: usize, room: 
 }
 
 // What `decide` found.
-#[derive(Drop)]
+#[derive(Clone, Copy)]
 pub enum Outcome {
     // The earliest times stand in t.
     Times,

@@ -1,4 +1,5 @@
 // The vocabulary of docs/RULES.md: the kinds of refusal, a refusal with its place, the three countings.
+#![tactic(auto)]
 ghost use Rattle.std.specs.Prelude.{◌≡◌, false};
 ghost use Rattle.faults.specs.Answer.{is_got, refused};
 ghost use Rattle.faults.specs.Values.{number, as_step};
@@ -46,7 +47,7 @@ pub const TERM_PLACES: usize = 1024;
 pub const ELEMENT_PLACES: usize = 1024;
 
 // One case a number of the table of verdicts: 1 to 5, 61 to 64 and 7 to 11, then 20 and 21 of the timetable's reader.
-#[derive(Drop)]
+#[derive(Clone, Copy)]
 pub enum Kind {
     Room,
     Long,
@@ -93,26 +94,26 @@ impl Kind {
 }
 
 // Why something is refused, and where.
-#[derive(Drop)]
+#[derive(Clone, Copy)]
 pub struct Refusal {
     pub kind: Kind,
     pub place: usize,
 }
 
 // The number of an atom.
-#[derive(Drop)]
+#[derive(Clone, Copy)]
 pub struct AtomNo(pub u32);
 
 // The number of a term.
-#[derive(Drop)]
+#[derive(Clone, Copy)]
 pub struct TermNo(pub u32);
 
 // The number of an element.
-#[derive(Drop)]
+#[derive(Clone, Copy)]
 pub struct ElementNo(pub u32);
 
 // What a layer answers: a number, or a refusal.
-#[derive(Drop)]
+#[derive(Clone, Copy)]
 pub enum Step {
     Good(usize),
     Refused(Refusal),

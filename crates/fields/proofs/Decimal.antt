@@ -3,7 +3,7 @@ use Prim.Native.Nat.{ℕ, suc, ◌+◌, ◌-◌, ◌*◌, ◌≤◌, ◌<◌, mi
 use mathlib.Core.Path.{◌≡◌, refl, sym, ap, ◌∙◌}
 use mathlib.Core.List.{List, [], ◌∷◌}
 use mathlib.Core.Bool.{Bool, true, false, not, ◌&&◌}
-use borrow.Author.Tests.{eq-eqb, ne_eqb, eqb-true, le_leb, leb-true, leb-false}
+use borrow.Author.Tests.{eq-eqb, ne_eqb, eqb-true, le-leb, leb-true, leb-false}
 use lib.Dec.{eqb, leb}
 use native.Mathlib.Omega.{arith}
 use lib.ListN.{length, get_or, drop}
@@ -116,7 +116,7 @@ natural_digits [] h = refl
 natural_digits (b ∷ bs) h = go (eqb b zero_digit) refl bs h
   where
     go : (t : Bool) → eqb b zero_digit ≡ t → (bs : List ℕ) → pick t (is_empty bs) (all_digits (b ∷ bs)) ≡ true → all_digits (b ∷ bs) ≡ true
-    go true q [] h = let e = eqb-true b zero_digit q in simp (le_leb zero_digit b (omega arith), le_leb b nine_digit (omega arith))
+    go true q [] h = let e = eqb-true b zero_digit q in simp (le-leb zero_digit b (omega arith), le-leb b nine_digit (omega arith))
     go true q (d ∷ ds) h = let z : ◌≡◌ {A = ℕ} 0 1 = (cc) in absurd (omega arith)
     go false q bs h = h
 

@@ -3,7 +3,7 @@ use Prim.Native.Nat.{ℕ, suc, ◌+◌, ◌≤◌, ◌<◌, min}
 use mathlib.Core.Path.{◌≡◌, refl, sym, ap, ◌∙◌}
 use mathlib.Core.List.{List, [], ◌∷◌}
 use mathlib.Core.Bool.{Bool, true, false}
-use borrow.Author.Tests.{eq-eqb, ne_eqb, eqb-true, eqb-false, le_leb, lt-leb, ltb-true, ltb-false}
+use borrow.Author.Tests.{eq-eqb, ne_eqb, eqb-true, eqb-false, le-leb, lt-leb, ltb-true, ltb-false}
 use lib.Dec.{eqb, leb, ltb, lit<}
 use native.Mathlib.Omega.{arith}
 use lib.ListN.{length, get_or, drop, length-drop, get_or-eq_default}
@@ -134,7 +134,7 @@ module _ (s : List ℕ) (at e : ℕ) (ends : e ≡ at + length (digits_at s at))
         let j = ap (value 0) (natural-run h) in
         let w : v ≡ value 0 (field s at) = omega arith in
         let n : e ≡ at + length (field s at) = omega (arith, ap length (natural-run h)) in
-        rw (h, le_leb (value 0 (field s at)) most (omega arith), w, n)
+        rw (h, le-leb (value 0 (field s at)) most (omega arith), w, n)
 
 pub byte_past : (s : List ℕ) (at : ℕ) → length s ≤ at → 0 ≡ byte_at s at
 unfolding byte_at

@@ -8,7 +8,7 @@ use crate::ends::{breaks_at, run_end};
 use crate::{LineEnd, NINE_DIGIT, SPACE, ZERO_DIGIT};
 
 // The value of digits, or one more than the most that is asked where it is beyond that, and where they end.
-#[derive(Drop)]
+#[derive(Clone, Copy)]
 pub(crate) struct Digits {
     pub(crate) value: u32,
     pub(crate) end: usize,

@@ -1,4 +1,5 @@
 // A cursor on a text, and the fields of a line: each method takes the cursor and gives the field with the next cursor.
+#![tactic(auto)]
 ghost use Rattle.std.specs.Prelude.{◌≡◌, false, List, ℕ};
 ghost use Rattle.fields.specs.Reading.{is_found};
 ghost use Rattle.fields.specs.inner.Values.{fault_of, as_passed, as_end, as_word, as_atom, as_term, as_element, as_wrote};
@@ -36,69 +37,69 @@ const NINE_DIGIT: u8 = 57;
 pub const WEIGHT_UNIT: u32 = 16384;
 
 // A place in the text.
-#[derive(Drop)]
+#[derive(Clone, Copy)]
 pub struct Cursor {
     pub at: usize,
 }
 
 // How a line ends: in byte 10 alone, or in bytes 13 10.
-#[derive(Drop)]
+#[derive(Clone, Copy)]
 pub enum LineEnd {
     Feed,
     Return,
 }
 
 // What reading finds that has no value.
-#[derive(Drop)]
+#[derive(Clone, Copy)]
 pub enum Passed {
     Got(Cursor),
     Refused(Refusal),
 }
 
 // What reading a line end finds: which one it is.
-#[derive(Drop)]
+#[derive(Clone, Copy)]
 pub enum EndField {
     Got(LineEnd, Cursor),
     Refused(Refusal),
 }
 
 // What reading a number finds.
-#[derive(Drop)]
+#[derive(Clone, Copy)]
 pub enum WordField {
     Got(u32, Cursor),
     Refused(Refusal),
 }
 
 // What reading an atom finds.
-#[derive(Drop)]
+#[derive(Clone, Copy)]
 pub enum AtomField {
     Got(AtomNo, Cursor),
     Refused(Refusal),
 }
 
 // What reading a term number finds.
-#[derive(Drop)]
+#[derive(Clone, Copy)]
 pub enum TermField {
     Got(TermNo, Cursor),
     Refused(Refusal),
 }
 
 // What reading an element number finds.
-#[derive(Drop)]
+#[derive(Clone, Copy)]
 pub enum ElementField {
     Got(ElementNo, Cursor),
     Refused(Refusal),
 }
 
 // What reading onto the tape gives: the cursor, and the next place of the tape.
-#[derive(Drop)]
+#[derive(Clone, Copy)]
 pub enum Wrote {
     Got(Cursor, usize),
     Refused(Refusal),
 }
 
 // What a list holds.
-#[derive(Drop)]
+#[derive(Clone, Copy)]
 pub enum Item {
     Atom,
     Literal,

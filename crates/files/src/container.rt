@@ -9,7 +9,7 @@ use fields::{Cursor, FEED, WordField};
 const LONGEST_CASE: u32 = LONGEST_TEXT as u32;
 
 // Where a case stands: the end of its name, then the start and the end of its bytes.
-#[derive(Drop)]
+#[derive(Clone, Copy)]
 pub enum Case {
     At(usize, usize, usize),
     Nothing,

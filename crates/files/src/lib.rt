@@ -1,4 +1,5 @@
 // Files: their bytes, and the cases of a container.
+#![tactic(auto)]
 ghost use Rattle.io.specs.Counts.{IsPrefixLen};
 
 pub mod container;

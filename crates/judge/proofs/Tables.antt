@@ -5,7 +5,7 @@ use mathlib.Core.Bool.{Bool, true, false}
 use mathlib.Core.List.{List, [], ◌∷◌}
 use mathlib.Core.Logic.{◌⊎◌, inl, inr}
 use native.Mathlib.Omega.{arith}
-use borrow.Author.Tests.{eqb-true, eqb-false, eq-eqb, ne_eqb, le_leb, le-ltb}
+use borrow.Author.Tests.{eqb-true, eqb-false, eq-eqb, ne_eqb, le-leb, le-ltb}
 use lib.Dec.{eqb}
 use lib.ListN.{length, take}
 use lib.Seq.{take-append_seam}
@@ -42,18 +42,18 @@ names_ascend : (low : ℕ) (ns : List ℕ) (u : ℕ → ℕ) → Ascending ns �
 unfolding ascends records_of
 names_ascend low [] u a b l = refl
 names_ascend low (n ∷ ns) u a b l =
-    rw (le_leb low n l.0, le_leb n last_term (omega (arith, b.0)))
+    rw (le-leb low n l.0, le-leb n last_term (omega (arith, b.0)))
     (names_ascend (n + 1) ns u a.1 b.1 (all_map (λ m. n < m) (λ m. n + 1 ≤ m) (λ m h. omega arith) ns a.0))
 
 atoms_ascend : (low : ℕ) (cs : List ℕ) → AscendingFrom low cs → ascends (low + 1) last_atom cs ≡ true
 unfolding ascends
 atoms_ascend low [] h = refl
-atoms_ascend low (c ∷ cs) h = rw (le_leb (low + 1) c (omega (arith, h.0)), le_leb c last_atom h.1) (atoms_ascend c cs h.2)
+atoms_ascend low (c ∷ cs) h = rw (le-leb (low + 1) c (omega (arith, h.0)), le-leb c last_atom h.1) (atoms_ascend c cs h.2)
 
 times-within : (ns : List ℕ) (u : ℕ → ℕ) → ((n : ℕ) → u n ≤ latest) → times_fit (records_of ns u) ≡ true
 unfolding times_fit records_of
 times-within [] u h = refl
-times-within (n ∷ ns) u h = rw (le_leb (u n) latest (h n)) (times-within ns u h)
+times-within (n ∷ ns) u h = rw (le-leb (u n) latest (h n)) (times-within ns u h)
 
 none-late : (ns : List ℕ) (u : ℕ → ℕ) → ((n : ℕ) → u n ≤ latest) → timely ns u ≡ got tt
 unfolding timely

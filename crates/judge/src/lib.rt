@@ -1,4 +1,5 @@
 // The judge: a plan text and a candidate in, a verdict and a timetable or a cycle out.
+#![tactic(auto)]
 ghost use Rattle.std.specs.Prelude.{◌≡◌, ◌≤◌, length};
 ghost use Rattle.faults.specs.Limits.{longest_text};
 ghost use Rattle.faults.specs.inner.Places.{short_text};
@@ -30,7 +31,7 @@ const SHORT_DIFFERENCES: usize = 223;
 const LONG_DIFFERENCES: usize = 6667;
 
 // The verdict: accepted, with the timetable's length; or refused, with its kind and place.
-#[derive(Drop)]
+#[derive(Clone, Copy)]
 pub enum Verdict {
     Accepted(usize),
     Refused(Refusal),
@@ -63,7 +64,7 @@ fn lent(room: &[u8], cycle: &[u32]) -> Step
 }
 
 // What a plan and its candidate come to before the times: refused; or stable, with the count of differences and the last atom.
-#[derive(Drop)]
+#[derive(Clone, Copy)]
 enum Untimed {
     Stable(usize, AtomNo),
     Refused(Refusal),

@@ -1,4 +1,5 @@
 // The judge for C and Rust callers: numbers and slices only, each answer packed into one 64-bit number.
+#![tactic(auto)]
 ghost use Rattle.std.specs.Prelude.{◌≡◌, ◌+◌, ◌*◌, ◌<◌, min, length};
 ghost use Rattle.faults.specs.Values.{number};
 ghost use Rattle.timetable.specs.Times.{time_of};
@@ -19,7 +20,7 @@ const HALF: u64 = 4294967296;
 const LARGEST_HALF: u32 = 4294967295;
 
 // What a number names: a kind of refusal, or none.
-#[derive(Drop)]
+#[derive(Clone, Copy)]
 enum Named {
     Is(Kind),
     Nothing,

@@ -1,5 +1,6 @@
 // Runs the reader's vectors: prints what reading gives for each text of `texts` and each candidate of `candidates`:
 // `refused NUMBER PLACE`, or `read COUNT` and the words of each line, or `candidate COUNT` and the atoms.
+#![tactic(auto)]
 ghost use Rattle.std.specs.Prelude.{◌≡◌, ◌≤◌, length};
 ghost use Rattle.files.specs.inner.Cases.{case_at, next_at};
 ghost use Rattle.faults.specs.Limits.{longest_text};
@@ -14,7 +15,7 @@ use libc::STDOUT_FILENO;
 use timetable::count_marked;
 
 // What the cases of a container are.
-#[derive(Drop)]
+#[derive(Clone, Copy)]
 enum Holds {
     Texts,
     Candidates,

@@ -4,7 +4,7 @@ use mathlib.Core.Bool.{Bool, true, false, not, cond, ◌&&◌}
 use mathlib.Core.List.{List, [], ◌∷◌, map}
 use mathlib.Core.Path.{◌≡◌, refl, ap, ◌∙◌, sym}
 use native.Mathlib.Omega.{arith}
-use borrow.Author.Tests.{leb-true, leb-false, le_leb, lt-leb}
+use borrow.Author.Tests.{leb-true, leb-false, le-leb, lt-leb}
 use lib.Dec.{leb}
 use lib.ListN.{length}
 use Rattle.basics.proofs.Bools.{and_swap, and_assoc}
@@ -30,7 +30,7 @@ module _ (X S : Atoms) where
   normal-holds (l ∷ ls) = go (literal_holds X S l) (all_hold X S ls) (normal-holds ls)
     where
       go : (t u : Bool) → leb (length ls) (reached_by X S (map one ls)) ≡ u → leb (suc (length ls)) (cond t 1 0 + reached_by X S (map one ls)) ≡ (t && u)
-      go true true q = le_leb (suc (length ls)) (1 + reached_by X S (map one ls)) (omega (arith, leb-true (length ls) (reached_by X S (map one ls)) q))
+      go true true q = le-leb (suc (length ls)) (1 + reached_by X S (map one ls)) (omega (arith, leb-true (length ls) (reached_by X S (map one ls)) q))
       go true false q = lt-leb (suc (length ls)) (1 + reached_by X S (map one ls)) (omega (arith, leb-false (length ls) (reached_by X S (map one ls)) q))
       go false u q = lt-leb (suc (length ls)) (0 + reached_by X S (map one ls)) (omega (arith, reached_most ls))
 

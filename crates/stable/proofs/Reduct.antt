@@ -4,7 +4,7 @@ use mathlib.Core.Bool.{Bool, true, false, not, cond}
 use mathlib.Core.List.{List, [], ◌∷◌}
 use mathlib.Core.Path.{◌≡◌, refl, ◌∙◌, sym}
 use native.Mathlib.Omega.{arith}
-use borrow.Author.Tests.{leb-true, leb-false, le_leb, lt-leb}
+use borrow.Author.Tests.{leb-true, leb-false, le-leb, lt-leb}
 use lib.Dec.{leb}
 use Rattle.aspif.specs.Statements.{Literal, positive, negated, Premise, Body}
 use Rattle.stable.specs.Meaning.{Atoms, literal_true, premises, lower_bound, reached, body_true, all_taken_off, positives, reduct}
@@ -41,7 +41,7 @@ pub off_bound : (k o r : ℕ) → leb (k - o) r ≡ leb k (o + r)
 off_bound k o r = go (leb k (o + r)) refl
   where
     go : (t : Bool) → leb k (o + r) ≡ t → leb (k - o) r ≡ t
-    go true q = le_leb (k - o) r (omega (arith, leb-true k (o + r) q))
+    go true q = le-leb (k - o) r (omega (arith, leb-true k (o + r) q))
     go false q = lt-leb (k - o) r (omega (arith, leb-false k (o + r) q))
 
 -- the reduct by X is true in S exactly if the body is in the one walk
@@ -66,7 +66,7 @@ module _ (X S S' : Atoms) (m : (a : ℕ) → S a ≡ true → S' a ≡ true) whe
 
   pub holds_mono : (b : Body) → body_holds X S b ≡ true → body_holds X S' b ≡ true
   holds_mono b h =
-      le_leb (lower_bound b) (reached_by X S' (premises b)) (omega (arith, leb-true (lower_bound b) (reached_by X S (premises b)) h, reached_mono (premises b)))
+      le-leb (lower_bound b) (reached_by X S' (premises b)) (omega (arith, leb-true (lower_bound b) (reached_by X S (premises b)) h, reached_mono (premises b)))
 
   -- nor the reduct of one
   pub reduct_mono : (b : Body) → body_true S (reduct X b) ≡ true → body_true S' (reduct X b) ≡ true

@@ -6,7 +6,7 @@ use mathlib.Core.List.{List, ◌∷◌, map}
 use mathlib.Core.Path.{◌≡◌, refl, ◌∙◌, sym}
 use native.Mathlib.Omega.{arith}
 use native.Mathlib.Nat.{zero-add}
-use borrow.Author.Tests.{le_leb, lt-leb}
+use borrow.Author.Tests.{le-leb, lt-leb}
 use lib.Dec.{leb}
 use lib.ListN.{length, get_or}
 use Rattle.basics.specs.inner.Bitmaps.{is_marked}
@@ -33,7 +33,7 @@ pub record Walk (x s t : List ℕ) (bound at due p left : ℕ) : Type 0 where
 
 -- a bound of 0 is reached by nothing
 pub none : (bound r : ℕ) → bound ≡ 0 → true ≡ leb bound r
-none bound r e = sym (le_leb bound r (omega arith))
+none bound r e = sym (le-leb bound r (omega arith))
 
 pub start : {x s t : List ℕ} {bound at n : ℕ} → PremisesOn t at → (bound ≡ 0 → ⊥) → n ≡ word t at → Walk x s t bound at bound (at + 1) n
 start k z e = rw e record { inside = k.inside; small = k.small; some = omega (arith, z); same = refl }
@@ -70,7 +70,7 @@ module _ {x s t : List ℕ} {bound at due p left : ℕ} (k : Walk x s t bound at
 
       -- a true one closes the bound, or some of it
       pub close : r ≡ true → due ≤ get_or t p 0 / weight_unit → true ≡ leb bound (rest x s t (at + 1) (word t at))
-      close e l = sym (step ∙ rw e (le_leb due _ (omega arith)))
+      close e l = sym (step ∙ rw e (le-leb due _ (omega arith)))
 
       pub take : r ≡ true → get_or t p 0 / weight_unit < due → Walk x s t bound at (due - get_or t p 0 / weight_unit) (p + 1) (left - 1)
       take e l = goes (omega arith) (rw e (sym (off_bound due _ _)))

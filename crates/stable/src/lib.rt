@@ -1,4 +1,5 @@
 // Stable candidates: the first broken rule, the least model of the reduct, the smallest unfounded atom.
+#![tactic(auto)]
 ghost use Rattle.std.specs.Prelude.{◌≡◌, ◌&&◌, ℕ, ◌+◌, ◌*◌, ◌/◌, ◌≤◌, ◌<◌, eqb, leb, length};
 ghost use Rattle.std.proofs.Math.Option.{some};
 ghost use Rattle.basics.specs.Lists.{among};
@@ -28,14 +29,14 @@ const SHORT_INDEX: usize = 250;
 const LONG_INDEX: usize = 7500;
 
 // Which rule is broken first, by the place of its line.
-#[derive(Drop)]
+#[derive(Clone, Copy)]
 pub enum Broken {
     None,
     At(u32),
 }
 
 // Which unfounded atom is the smallest.
-#[derive(Drop)]
+#[derive(Clone, Copy)]
 pub enum Unfounded {
     None,
     Atom(AtomNo),

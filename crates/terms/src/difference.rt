@@ -16,21 +16,21 @@ use aspif::words::{
 use faults::{ElementNo, TermNo};
 
 // The bound that a term gives.
-#[derive(Drop)]
+#[derive(Clone, Copy)]
 pub enum Limit {
     Is(i32),
     Not,
 }
 
 // The two sides of a difference.
-#[derive(Drop)]
+#[derive(Clone, Copy)]
 pub enum Sides {
     Are(TermNo, TermNo),
     Not,
 }
 
 // What a theory atom says.
-#[derive(Drop)]
+#[derive(Clone, Copy)]
 pub enum Said {
     Is(TermNo, TermNo, i32),
     Not,

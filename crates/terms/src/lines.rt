@@ -24,7 +24,7 @@ use fields::field_place;
 const FIRST_FIELD: usize = 0;
 
 // What a line is for.
-#[derive(Drop)]
+#[derive(Clone, Copy)]
 pub enum Role {
     Term,
     Element,
@@ -33,7 +33,7 @@ pub enum Role {
 }
 
 // What a line does in its turn: it adds no difference, or the one that it states, or it is refused.
-#[derive(Drop)]
+#[derive(Clone, Copy)]
 pub enum Turn {
     Goes,
     States(AtomNo, TermNo, TermNo, i32),

@@ -22,7 +22,7 @@ use aspif::words::{
 use faults::TermNo;
 
 // The field of a number that is used and not defined.
-#[derive(Drop)]
+#[derive(Clone, Copy)]
 pub enum Use {
     At(usize),
     None,

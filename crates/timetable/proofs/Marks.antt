@@ -5,7 +5,7 @@ use mathlib.Core.Bool.{Bool, true, false}
 use mathlib.Core.List.{List, [], ◌∷◌}
 use native.Mathlib.Omega.{arith}
 use native.Mathlib.Numerals.{add-one}
-use borrow.Author.Tests.{eq-eqb, ne_eqb, le_leb}
+use borrow.Author.Tests.{eq-eqb, ne_eqb, le-leb}
 use lib.Dec.{eqb}
 use lib.ListN.{length, get_or, drop, length-drop, drop_of_length-le}
 use lib.Seq.{drop-cons}
@@ -49,7 +49,7 @@ marks_ascend i low high (b ∷ bs) l h =
   where
     go : (t : Bool) → ascends (i + 1) high (marks (i + 1) bs) ≡ true → ascends low high (marks (i + 1) bs) ≡ true
         → ascends low high (pick t (i ∷ marks (i + 1) bs) (marks (i + 1) bs)) ≡ true
-    go true u v = rw (le_leb low i l, le_leb i high (omega arith)) u
+    go true u v = rw (le-leb low i l, le-leb i high (omega arith)) u
     go false u v = v
 
 -- the marked numbers from low on ascend strictly, and none is above the last that has a place

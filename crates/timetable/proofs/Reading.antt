@@ -4,7 +4,7 @@ use mathlib.Core.Path.{◌≡◌}
 use mathlib.Core.Bool.{Bool, true, false, ◌&&◌, and-false}
 use mathlib.Core.List.{List}
 use native.Mathlib.Omega.{arith}
-use borrow.Author.Tests.{eqb-true, eq-eqb, ne_eqb, le_leb, lt-leb}
+use borrow.Author.Tests.{eqb-true, eq-eqb, ne_eqb, le-leb, lt-leb}
 use lib.Dec.{eqb, leb}
 use lib.ListN.{length}
 use Rattle.basics.proofs.Bools.{and_cases}
@@ -39,14 +39,14 @@ module _ (s : List ℕ) (low p : ℕ) where
     records-low a = rw (lt-leb low x a) at (records_step left x y h e f)
 
     pub records_high : low ≤ x → last_term < x → false ≡ records_left s low left p
-    records_high a b = rw (le_leb low x a, lt-leb x last_term b) at (records_step left x y h e f)
+    records_high a b = rw (le-leb low x a, lt-leb x last_term b) at (records_step left x y h e f)
 
     pub records-late : low ≤ x → x ≤ last_term → latest < y → false ≡ records_left s low left p
-    records-late a b d = rw (le_leb low x a, le_leb x last_term b, lt-leb y latest d, and-false) at (records_step left x y h e f)
+    records-late a b d = rw (le-leb low x a, le-leb x last_term b, lt-leb y latest d, and-false) at (records_step left x y h e f)
 
     pub records_on : low ≤ x → x ≤ last_term → y ≤ latest → records_left s (x + 1) (left - 1) (p + 8) ≡ records_left s low left p
     unfolding records_left
-    records_on a b d = rw (le_leb low x a, le_leb x last_term b, le_leb y latest d) at (records_step left x y h e f)
+    records_on a b d = rw (le-leb low x a, le-leb x last_term b, le-leb y latest d) at (records_step left x y h e f)
 
 -- ---- atoms
 
@@ -72,11 +72,11 @@ module _ (s : List ℕ) (low p : ℕ) where
     atoms-low a = rw (lt-leb low x a) at (atoms_step left x h e)
 
     pub atoms_high : low ≤ x → last_atom < x → false ≡ atoms_left s low left p
-    atoms_high a b = rw (le_leb low x a, lt-leb x last_atom b) at (atoms_step left x h e)
+    atoms_high a b = rw (le-leb low x a, lt-leb x last_atom b) at (atoms_step left x h e)
 
     pub atoms_on : low ≤ x → x ≤ last_atom → atoms_left s (x + 1) (left - 1) (p + 4) ≡ atoms_left s low left p
     unfolding atoms_left
-    atoms_on a b = rw (le_leb low x a, le_leb x last_atom b) at (atoms_step left x h e)
+    atoms_on a b = rw (le-leb low x a, le-leb x last_atom b) at (atoms_step left x h e)
 
 -- ---- the time of a name
 

@@ -5,7 +5,7 @@ use mathlib.Core.Bool.{Bool, true, false}
 use mathlib.Core.List.{List, [], ◌∷◌}
 use native.Mathlib.Omega.{arith}
 use native.Mathlib.Nat.{add-zero, zero-add}
-use borrow.Author.Tests.{eq-eqb, ne_eqb, le_leb}
+use borrow.Author.Tests.{eq-eqb, ne_eqb, le-leb}
 use lib.Dec.{eqb}
 use lib.ListN.{length}
 use Rattle.basics.specs.Bools.{pick}
@@ -40,7 +40,7 @@ marks-in_time i (b ∷ bs) time h =
 
     go : (t : Bool) → (t ≡ true → time i ≤ latest) → times_fit (records_of (marks (i + 1) bs) time) ≡ true
         → times_fit (records_of (pick t (i ∷ marks (i + 1) bs) (marks (i + 1) bs)) time) ≡ true
-    go true l r = rw (le_leb (time i) latest (l refl)) r
+    go true l r = rw (le-leb (time i) latest (l refl)) r
     go false l r = r
 
 -- marked names with timely times, and marked atoms, are a content within the bounds

@@ -1,4 +1,5 @@
 // The timetable: writes its bytes into a room that is lent, and reads a time from them.
+#![tactic(auto)]
 ghost use Rattle.std.specs.Prelude.{◌≡◌, ◌+◌, ◌-◌, ◌*◌, ◌≤◌, ◌%◌, ◌&&◌, ◌++◌, length};
 ghost use Rattle.std.proofs.lemmas.List.Edits.{sets};
 ghost use Rattle.basics.specs.inner.Bitmaps.{marked_from};
@@ -18,7 +19,7 @@ const LATEST: u32 = 1023000000;
 pub const HEADER: usize = 16;
 
 // What the reader answers: a time, or why there is none.
-#[derive(Drop)]
+#[derive(Clone, Copy)]
 pub enum Time {
     At(u32),
     Refused(Refusal),

@@ -1,6 +1,6 @@
 -- `all_true`: what is left of the literals decides as all of them did, up to the first false one. Assumes nothing.
 use native.Mathlib.Omega.{arith}
-use borrow.Author.Tests.{not_true, not-false}
+use borrow.Author.Tests.{not-true, not-false}
 use Rattle.stable.proofs.Literals.{Walk, start, here, atom, pass, fail, end}
 use Rattle.stable.proofs.Lines.{read_word}
 use Rattle.stable.proofs.all_true.Statement.{statement}
@@ -37,7 +37,7 @@ literal-true-requires : tie.Need-literal-true-requires invariant-loop decreases-
 literal-true-requires c κs = (atom c.before.before.loop.invariant c.before.loop-test.true, (c.before.before.before.before.before.before.before.requires.1.0, c.before.before.before.before.before.before.before.requires.1.1))
 
 returns : tie.Need-returns invariant-loop decreases-loop
-returns c = fail c.before.before.before.before.loop.invariant c.before.before.before.loop-test.true c.before.literal-true.ensures (not_true _ c.if1.true)
+returns c = fail c.before.before.before.before.loop.invariant c.before.before.before.loop-test.true c.before.literal-true.ensures (not-true _ c.if1.true)
 
 add-p-2 : tie.Need-overflow-add-p-2 invariant-loop decreases-loop
 add-p-2 c = omega (arith, here c.before.before.before.before.loop.invariant c.before.before.before.loop-test.true)

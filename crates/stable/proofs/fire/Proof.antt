@@ -2,7 +2,7 @@
 use Prim.Native.Nat.{◌+◌}
 use native.Mathlib.Omega.{arith}
 use borrow.Author.Rules.{rules}
-use borrow.Author.Tests.{not_true, not-false}
+use borrow.Author.Tests.{not-true, not-false}
 use Rattle.stable.proofs.Heads.{heads-inside, plain_small, choice-small, body_on, idle, chosen, plain}
 use Rattle.stable.proofs.Lines.{read_word}
 use Rattle.stable.proofs.fire.Statement.{statement}
@@ -36,7 +36,7 @@ returns : tie.Need-returns
 returns c =
     let pre = c.before.before.before.before.before.before.before.requires in
     let args = c.before.before.before.before.before.before.before.args in
-    idle pre.0 (read_word _ _) args.x.now args.found.now c.before.body-true.ensures (not_true _ c.if1.true)
+    idle pre.0 (read_word _ _) args.x.now args.found.now c.before.body-true.ensures (not-true _ c.if1.true)
 
 add-if2 : tie.Need-overflow-add-if2
 add-if2 c = omega (arith, c.before.before.before.before.before.before.before.requires.0.body.inside)

@@ -1,5 +1,5 @@
 -- `fields::digits::is_digit` meets its contract. Assumes nothing.
-use borrow.Author.Tests.{le_leb, lt-leb}
+use borrow.Author.Tests.{le-leb, lt-leb}
 use Rattle.fields.proofs.digits.is_digit.Statement.{statement}
 use Rattle.fields.proofs.digits.is_digit.Tie as tie
 
@@ -7,7 +7,7 @@ returns : tie.Need-returns
 returns c = rw (lt-leb _ _ c.if1.true)
 
 returns-2 : tie.Need-returns-2
-returns-2 c = rw (le_leb _ _ c.if1.false)
+returns-2 c = rw (le-leb _ _ c.if1.false)
 
 pub is-digit-spec : {M : Type 1} → statement M
 is-digit-spec = tie.close (tie.spec returns returns-2)

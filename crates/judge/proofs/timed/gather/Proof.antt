@@ -2,7 +2,7 @@
 use Prim.Native.Nat.{◌-◌}
 use mathlib.Core.Path.{sym, ◌∙◌}
 use borrow.Author.Rules.{rules}
-use borrow.Author.Tests.{not_true, not-false}
+use borrow.Author.Tests.{not-true, not-false}
 use Rattle.judge.proofs.Gathering.{Going, going_start, going_pass, going_take, going_end}
 use Rattle.judge.proofs.timed.gather.Statement.{statement}
 use Rattle.judge.proofs.timed.gather.Tie as tie
@@ -32,7 +32,7 @@ loop-less : tie.Need-loop-smaller invariant-loop decreases-loop
 loop-less c = search rules
 
 loop-again : tie.Need-loop-preserved invariant-loop decreases-loop
-loop-again c = going_pass _ _ _ _ _ _ _ _ _ _ _ _ c.before.before.before.before.loop.invariant c.before.before.before.loop-test.true (sym c.before.holds.ensures ∙ not_true _ c.if1.true)
+loop-again c = going_pass _ _ _ _ _ _ _ _ _ _ _ _ c.before.before.before.before.loop.invariant c.before.before.before.loop-test.true (sym c.before.holds.ensures ∙ not-true _ c.if1.true)
 
 mul-u : tie.Need-overflow-mul-u invariant-loop decreases-loop
 mul-u c = search rules

@@ -1,6 +1,6 @@
 -- `bound`: one law for each way out.
 use mathlib.Core.Path.{◌∙◌}
-use borrow.Author.Tests.{not_true, not-false}
+use borrow.Author.Tests.{not-true, not-false}
 use Rattle.terms.proofs.Reading.{bound_out, bound-number, bound-not, bound-minus}
 use borrow.Author.Rules.{rules}
 use Rattle.terms.proofs.difference.bound.Statement.{statement}
@@ -31,7 +31,7 @@ minus-of-requires : tie.Need-minus-of-requires
 minus-of-requires c κs = search rules
 
 returns-3 : tie.Need-returns-3
-returns-3 c = bound-not _ _ _ _ c.before.before.before.before.before.term-entry.ensures c.before.before.before.before.if1.false _ c.before.before.before.word_at.ensures.0 _ c.before.before.if2.false c.before.minus-of.ensures (not_true _ c.if3.true)
+returns-3 c = bound-not _ _ _ _ c.before.before.before.before.before.term-entry.ensures c.before.before.before.before.if1.false _ c.before.before.before.word_at.ensures.0 _ c.before.before.if2.false c.before.minus-of.ensures (not-true _ c.if3.true)
 
 term-at-requires : tie.Need-term-at-requires
 term-at-requires c κs = search rules

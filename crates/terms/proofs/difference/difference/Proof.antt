@@ -1,6 +1,6 @@
 -- `difference`: one law for each way out.
 use mathlib.Core.Path.{◌∙◌}
-use borrow.Author.Tests.{not_true, not-false}
+use borrow.Author.Tests.{not-true, not-false}
 use Rattle.terms.proofs.Reading.{diff_plain, diff_many, diff-named, diff-guard, diff_is}
 use borrow.Author.Rules.{rules}
 use Rattle.terms.proofs.difference.difference.Statement.{statement}
@@ -28,7 +28,7 @@ named-requires : tie.Need-named-requires
 named-requires c κs = search rules
 
 returns-3 : tie.Need-returns-3
-returns-3 c = diff-named _ _ _ _ _ c.before.before.before.before.before.before.before.word_at.ensures.0 c.before.before.before.before.before.before.if1.false _ c.before.before.before.before.before.word-at2.ensures.0 c.before.before.before.before.if2.false _ c.before.before.before.term-at.ensures _ c.before.named.ensures (not_true _ c.if3.true)
+returns-3 c = diff-named _ _ _ _ _ c.before.before.before.before.before.before.before.word_at.ensures.0 c.before.before.before.before.before.before.if1.false _ c.before.before.before.before.before.word-at2.ensures.0 c.before.before.before.before.if2.false _ c.before.before.before.term-at.ensures _ c.before.named.ensures (not-true _ c.if3.true)
 
 term-at-requires-2 : tie.Need-term-at-requires-2
 term-at-requires-2 c κs = search rules
@@ -40,7 +40,7 @@ named-requires-2 : tie.Need-named-requires-2
 named-requires-2 c κs = search rules
 
 returns-4 : tie.Need-returns-4
-returns-4 c = diff-guard _ _ _ _ _ c.before.before.before.before.before.before.before.before.before.before.before.word_at.ensures.0 c.before.before.before.before.before.before.before.before.before.before.if1.false _ c.before.before.before.before.before.before.before.before.before.word-at2.ensures.0 c.before.before.before.before.before.before.before.before.if2.false _ c.before.before.before.before.before.before.before.term-at.ensures _ c.before.before.before.before.before.named.ensures (not-false _ c.before.before.before.before.if3.false) _ c.before.before.before.term-at2.ensures _ c.before.named2.ensures (not_true _ c.if4.true)
+returns-4 c = diff-guard _ _ _ _ _ c.before.before.before.before.before.before.before.before.before.before.before.word_at.ensures.0 c.before.before.before.before.before.before.before.before.before.before.if1.false _ c.before.before.before.before.before.before.before.before.before.word-at2.ensures.0 c.before.before.before.before.before.before.before.before.if2.false _ c.before.before.before.before.before.before.before.term-at.ensures _ c.before.before.before.before.before.named.ensures (not-false _ c.before.before.before.before.if3.false) _ c.before.before.before.term-at2.ensures _ c.before.named2.ensures (not-true _ c.if4.true)
 
 element-at-requires : tie.Need-element-at-requires
 element-at-requires c κs = search rules

@@ -1,7 +1,7 @@
 -- `pair`: one law for each way out.
 use mathlib.Core.Path.{sym, ◌∙◌}
 use native.Mathlib.Omega.{arith}
-use borrow.Author.Tests.{not_true, not-false}
+use borrow.Author.Tests.{not-true, not-false}
 use Rattle.terms.proofs.Reading.{minus_there, pair-not, pair_is}
 use borrow.Author.Rules.{rules}
 use Rattle.terms.proofs.difference.pair.Statement.{statement}
@@ -14,7 +14,7 @@ minus-of-requires : tie.Need-minus-of-requires
 minus-of-requires c κs = search rules
 
 returns : tie.Need-returns
-returns c = pair-not _ _ _ _ c.before.before.term-entry.ensures _ c.before.minus-of.ensures (not_true _ c.if1.true)
+returns c = pair-not _ _ _ _ c.before.before.term-entry.ensures _ c.before.minus-of.ensures (not-true _ c.if1.true)
 
 sub-q : tie.Need-overflow-sub-q
 sub-q c = omega (arith, minus_there _ _ _ _ (sym c.before.minus-of.ensures ∙ not-false _ c.if1.false))

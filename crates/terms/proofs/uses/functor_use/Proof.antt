@@ -1,6 +1,6 @@
 -- `functor_use`: t is unknown if it is a term number without an entry.
 use borrow.Author.Rules.{rules}
-use borrow.Author.Tests.{not_true, not-false}
+use borrow.Author.Tests.{not-true, not-false}
 use Rattle.terms.proofs.Using.{functor-none, functor-unknown, functor-known}
 use Rattle.terms.proofs.uses.functor_use.Statement.{statement}
 use Rattle.terms.proofs.uses.functor_use.Tie as tie
@@ -9,7 +9,7 @@ is-term-requires : tie.Need-is-term-requires
 is-term-requires c κs = search rules
 
 returns : tie.Need-returns
-returns c = functor-none _ c.before.before.before.args.t _ c.before.is-term.ensures (not_true _ c.if1.true)
+returns c = functor-none _ c.before.before.before.args.t _ c.before.is-term.ensures (not-true _ c.if1.true)
 
 term-entry-requires : tie.Need-term-entry-requires
 term-entry-requires c κs = search rules
