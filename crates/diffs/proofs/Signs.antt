@@ -16,7 +16,7 @@ pub back32 : {k : ℤ} → SFits w32 k → to_z w32 (of_z w32 k) ≡ k
 back32 f = to_z-of_z f
 
 pub back64 : {k : ℤ} → SFits w32 k → to_z w64 (of_z w64 (to_z w32 (of_z w32 k))) ≡ k
-back64 {k} f = ap (λ (z : ℤ). to_z w64 (of_z w64 z)) (to_z-of_z f) ∙ to_z-of_z (sfits_widen tt f)
+back64 {k} f = ap (λ (z : ℤ). to_z w64 (of_z w64 z)) (to_z-of_z f) ∙ to_z-of_z {w = w64} (sfits_widen {w = w32} {w' = w64} tt f)
 
 -- not below 0
 pub up-abs : (k : ℤ) → lt_z k (pos 0) ≡ false → (T (non_neg k)) × (nat_abs k ≡ up k) × (down k ≡ 0)

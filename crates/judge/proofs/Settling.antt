@@ -16,7 +16,7 @@ use Rattle.diffs.specs.declared.Outcome.{Outcome}
 use Rattle.timetable.specs.inner.Given.{time_at}
 use Rattle.judge.specs.Plan.{Rooms, Ready, Held, InForce}
 use Rattle.judge.specs.Judged.{Result, accepting, showing, table, Each, NegativeCycle, Timed}
-use Rattle.judge.specs.Values.{rooms, result}
+use Rattle.judge.specs.Values.{rooms, as_result}
 use Rattle.terms.specs.inner.Marks.{MarksThose}
 use Rattle.terms.proofs.Naming.{names-are}
 use Rattle.judge.proofs.Said.{stating_filled}
@@ -50,14 +50,14 @@ module _ (m : ℕ) (c : ℕ → Diff) (labels t cycle cycle' : List ℕ) where
 module _ (m : ℕ) (c : ℕ → Diff) (labels names x room cycle t cycle' : List ℕ) (o : Outcome) (d : Decided o m c labels labels t cycle cycle') where
   -- the earliest times, and what was written of them
   pub settled-times : o ≡ outcome.Times → (v : Verdict) (room' : List ℕ)
-      → ((cs : List ℕ) → result v room' cs ≡ accepting (rooms room cs) (table (marked_from 0 names) (time_at t) (marked_from 1 x)))
-      → Settled m c labels names x (rooms room cycle) (result v room' cycle')
+      → ((cs : List ℕ) → as_result v room' cs ≡ accepting (rooms room cs) (table (marked_from 0 names) (time_at t) (marked_from 1 x)))
+      → Settled m c labels names x (rooms room cycle) (as_result v room' cycle')
   settled-times e v room' w =
       let q = times_of m c labels t cycle cycle' o d e in
-      table_written (cell t) q.earliest (ap (λ (cs : List ℕ). result v room' cs) q.kept ∙ w cycle)
+      table_written (cell t) q.earliest (ap (λ (cs : List ℕ). as_result v room' cs) q.kept ∙ w cycle)
 
   -- the cycle of k differences
-  pub settled-cycle : (k : ℕ) → o ≡ outcome.Cycle k → Settled m c labels names x (rooms room cycle) (result (Refused (record { kind = kind.Cycle; place = k })) room cycle')
+  pub settled-cycle : (k : ℕ) → o ≡ outcome.Cycle k → Settled m c labels names x (rooms room cycle) (as_result (Refused (record { kind = kind.Cycle; place = k })) room cycle')
   settled-cycle k e = cycle_shown k cycle' (cycle_of m c labels t cycle cycle' o k d e) refl
 
 -- ---- what it says of the plan

@@ -24,7 +24,7 @@ use Rattle.timetable.proofs.Answers.{one_time}
 use Rattle.judge.specs.Plan.{Asked, Rooms, Ready, holds, readable, InForce}
 use Rattle.judge.specs.Judged.{Judgement, acceptance, refusal, Result, refusing, showing, accepting, Each, NegativeCycle, table, Timed, impossible, possible, Supported, unsupported, supported, Weighed, breaks, sound, Judges, unreadable, judgeable, Judged}
 use Rattle.judge.specs.Shown.{IsShown}
-use Rattle.judge.specs.Values.{as_verdict, result}
+use Rattle.judge.specs.Values.{as_verdict, as_result}
 use Rattle.judge.specs.declared.Verdict.{Verdict}
 use Rattle.judge.specs.declared.Verdict.TheVariants.{Accepted, Refused}
 use Rattle.judge.proofs.Ascent.{names_unique}
@@ -131,11 +131,11 @@ verdict_unique v v' e = sym (verdict-back v) ∙ ap verdict_of e ∙ verdict-bac
 
 -- two verdicts and what both rooms hold then, that the contract of `judge` allows for the same input, are equal; or both are 10
 pub judge_unique : (a : Asked) (b : Rooms) (v v' : Verdict) (room room' cycle cycle' : List ℕ)
-    → Judged a b (result v room cycle) → Judged a b (result v' room' cycle')
-    → ((v ≡ v') × (room ≡ room') × (cycle ≡ cycle')) ⊎ ((q : Ready) × (readable a b ≡ got q) × BothTen q b (result v room cycle) (result v' room' cycle'))
+    → Judged a b (as_result v room cycle) → Judged a b (as_result v' room' cycle')
+    → ((v ≡ v') × (room ≡ room') × (cycle ≡ cycle')) ⊎ ((q : Ready) × (readable a b ≡ got q) × BothTen q b (as_result v room cycle) (as_result v' room' cycle'))
 judge_unique a b v v' room room' cycle cycle' h g =
     ⊎_elim (λ e. inl (verdict_unique v v' (ap (λ (r : Result). r.verdict) e), ap (λ (r : Result). r.rooms.room) e, ap (λ (r : Result). r.rooms.cycle) e)) (λ e. inr e)
-    (judged_unique a b (result v room cycle) (result v' room' cycle') h g)
+    (judged_unique a b (as_result v room cycle) (as_result v' room' cycle') h g)
 
 -- ---- the other two entry points
 

@@ -10,7 +10,7 @@ use Rattle.faults.specs.declared.Step.{Step}
 use Rattle.timetable.specs.Table.{table_of}
 use Rattle.timetable.specs.inner.Given.{given, time_at, WrittenTable}
 use Rattle.judge.specs.Judged.{in_time, table, accepting}
-use Rattle.judge.specs.Values.{rooms, result}
+use Rattle.judge.specs.Values.{rooms, as_result}
 use Rattle.judge.specs.inner.Stages.{as_checked}
 use Rattle.judge.specs.declared.Verdict.TheVariants.{Accepted, Refused}
 use Rattle.faults.specs.declared.Step.TheVariants as step
@@ -18,7 +18,7 @@ use Rattle.faults.specs.declared.Step.TheVariants as step
 module _ (names times x room : List ℕ) (s : Step) (passed : as_checked s ≡ in_time (marked_from 0 names) (time_at times)) (cycle : List ℕ) where
   -- some name is late
   pub refused-late : (w r : Refusal) → s ≡ step.Refused w → as_step s ≡ refused (number r.kind) r.place
-      → result (Refused r) room cycle ≡ accepting (rooms room cycle) (table (marked_from 0 names) (time_at times) (marked_from 1 x))
+      → as_result (Refused r) room cycle ≡ accepting (rooms room cycle) (table (marked_from 0 names) (time_at times) (marked_from 1 x))
   unfolding table
   refused-late w r e f =
       let d = rw e at f in
@@ -28,6 +28,6 @@ module _ (names times x room : List ℕ) (s : Step) (passed : as_checked s ≡ i
 
   -- no name is late, and the table is written
   pub accepted-table : (k : ℕ) → s ≡ step.Good k → (room' : List ℕ) (n : ℕ) → WrittenTable (table_of (given names times x)) room room' n
-      → result (Accepted n) room' cycle ≡ accepting (rooms room cycle) (table (marked_from 0 names) (time_at times) (marked_from 1 x))
+      → as_result (Accepted n) room' cycle ≡ accepting (rooms room cycle) (table (marked_from 0 names) (time_at times) (marked_from 1 x))
   unfolding table given
   accepted-table k e room' n w = rw (← passed, e, w.is, w.count)

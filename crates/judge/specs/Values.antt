@@ -13,5 +13,5 @@ as_verdict (Refused r) = refusal (number r.kind) r.place
 abbrev pub rooms : (room cycle : List ℕ) → Rooms
 rooms room cycle = record { room = room; cycle = cycle }
 
-abbrev pub result : Verdict → (room cycle : List ℕ) → Result
-result v room cycle = record { verdict = as_verdict v; rooms = rooms room cycle }
+abbrev pub as_result : Verdict → (room cycle : List ℕ) → Result
+as_result v room cycle = record { verdict = as_verdict v; rooms = rooms room cycle }

@@ -8,7 +8,7 @@ ghost use Rattle.terms.specs.inner.Values.{Roomy};
 ghost use Rattle.timetable.specs.Times.{as_time, time_of};
 ghost use Rattle.judge.specs.Plan.{Asked, asked, lent};
 ghost use Rattle.judge.specs.Judged.{Judged};
-ghost use Rattle.judge.specs.Values.{rooms, result};
+ghost use Rattle.judge.specs.Values.{rooms, as_result};
 ghost use Rattle.judge.specs.inner.Stages.{Sized, BeforeTimes, Foregone, as_checked};
 
 use aspif::candidate::{Marked, candidate};
@@ -39,14 +39,14 @@ pub enum Verdict {
 
 // The verdict that refuses by a kind at a place.
 fn refuse(kind: Kind, place: usize) -> Verdict
-    ensures* { λ r. ⌜ r ≡ Verdict.Refused (record { kind = kind; place = place }) ⌝ }
+    ensures { result ≡ Verdict.Refused (record { kind = kind; place = place }) }
 {
     Verdict::Refused(Refusal { kind, place })
 }
 
 // 1, where a room is too short, the timetable room first.
 fn lent(room: &[u8], cycle: &[u32]) -> Step
-    ensures* { λ r. ⌜ as_checked r ≡ lent (rooms room.now cycle.now) ⌝ }
+    ensures { as_checked result ≡ lent (rooms room.now cycle.now) }
 {
     if room.len() < TABLE_ROOM {
         return Step::Refused(Refusal {
@@ -72,7 +72,7 @@ enum Untimed {
 
 // The refusal by a kind at a place.
 fn refused(kind: Kind, place: usize) -> Untimed
-    ensures* { λ r. ⌜ r ≡ Untimed.Refused (record { kind = kind; place = place }) ⌝ }
+    ensures { result ≡ Untimed.Refused (record { kind = kind; place = place }) }
 {
     Untimed::Refused(Refusal { kind, place })
 }
@@ -90,7 +90,7 @@ fn before_times(
 ) -> Untimed
     requires text_in_bounds { (length text.now ≤ length tape.old) × (length tape.old ≤ longest_text) }
     requires roomy { Roomy (length tape.old) atoms.old xs.old ys.old ks.old × Blank x.old }
-    ensures* { λ r. ⌜ BeforeTimes r (asked text.now cand.now) x.new atoms.new xs.new ys.new ks.new ⌝ }
+    ensures { BeforeTimes result (asked text.now cand.now) x.new atoms.new xs.new ys.new ks.new }
 {
     let a = aspif::read(text, tape);
     let Step::Good(n) = a else {
@@ -129,7 +129,7 @@ fn ended(
     cycle: &mut [u32],
 ) -> Verdict
     requires { Foregone u x.now atoms.old xs.old ys.old ks.old × Sized room.old cycle.old }
-    ensures* { λ r. ⌜ ((a : Asked) → BeforeTimes u a x.now atoms.old xs.old ys.old ks.old → Judged a (rooms room.old cycle.old) (result r room.new cycle.new)) ⌝ }
+    ensures { (a : Asked) → BeforeTimes u a x.now atoms.old xs.old ys.old ks.old → Judged a (rooms room.old cycle.old) (as_result result room.new cycle.new) }
 {
     match u {
         Untimed::Refused(r) => Verdict::Refused(r),
@@ -143,7 +143,7 @@ fn ended(
 // The verdict on a short text: its tape and slices are short too, so it has a small frame.
 pub fn judge_short(text: &[u8], cand: &[u8], room: &mut [u8], cycle: &mut [u32]) -> Verdict
     requires { length text.now ≤ short_text }
-    ensures* { λ r. ⌜ Judged (asked text.now cand.now) (rooms room.old cycle.old) (result r room.new cycle.new) ⌝ }
+    ensures { Judged (asked text.now cand.now) (rooms room.old cycle.old) (as_result result room.new cycle.new) }
 {
     let l = lent(room, cycle);
     let Step::Good(_) = l else {
@@ -163,7 +163,7 @@ pub fn judge_short(text: &[u8], cand: &[u8], room: &mut [u8], cycle: &mut [u32])
 
 // The verdict on any text, with the longest tape.
 pub fn judge_long(text: &[u8], cand: &[u8], room: &mut [u8], cycle: &mut [u32]) -> Verdict
-    ensures* { λ r. ⌜ Judged (asked text.now cand.now) (rooms room.old cycle.old) (result r room.new cycle.new) ⌝ }
+    ensures { Judged (asked text.now cand.now) (rooms room.old cycle.old) (as_result result room.new cycle.new) }
 {
     let l = lent(room, cycle);
     let Step::Good(_) = l else {
@@ -186,7 +186,7 @@ pub fn judge_long(text: &[u8], cand: &[u8], room: &mut [u8], cycle: &mut [u32]) 
 
 // The verdict on a plan text and a candidate; the timetable's bytes in room, or a negative cycle's atoms in cycle.
 pub fn judge(text: &[u8], cand: &[u8], room: &mut [u8], cycle: &mut [u32]) -> Verdict
-    ensures* { λ r. ⌜ Judged (asked text.now cand.now) (rooms room.old cycle.old) (result r room.new cycle.new) ⌝ }
+    ensures { Judged (asked text.now cand.now) (rooms room.old cycle.old) (as_result result room.new cycle.new) }
 {
     // Two functions, so that the longest tape is not in the frame of a short text.
     if text.len() <= SHORT_TEXT {
@@ -197,7 +197,7 @@ pub fn judge(text: &[u8], cand: &[u8], room: &mut [u8], cycle: &mut [u32]) -> Ve
 
 // The time of a name in a timetable; or 20 where the slice is none, or 21 where the name is not in it.
 pub fn time(table: &[u8], term: TermNo) -> Time
-    ensures* { λ r. ⌜ as_time r ≡ time_of table.now term.0 ⌝ }
+    ensures { as_time result ≡ time_of table.now term.0 }
 {
     timetable::time_of(table, term)
 }

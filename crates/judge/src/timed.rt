@@ -6,7 +6,7 @@ ghost use Rattle.aspif.specs.Statements.{Line};
 ghost use Rattle.diffs.specs.inner.Answer.{diff_at};
 ghost use Rattle.timetable.specs.inner.Given.{time_at};
 ghost use Rattle.judge.specs.Judged.{in_time, table, accepting, Timed};
-ghost use Rattle.judge.specs.Values.{rooms, result};
+ghost use Rattle.judge.specs.Values.{rooms, as_result};
 ghost use Rattle.judge.specs.inner.Stages.{stated, Stating, Candidate, Sized, ready_at, Filled, in_force, Gathered};
 ghost use Rattle.judge.specs.inner.Stages.{Writable, Labelled, Settled, as_checked};
 
@@ -20,7 +20,7 @@ const LARGEST_TIME: u64 = 2147483647;
 
 // Whether an atom is marked in x.
 fn holds(x: &[u8], atom: u32) -> bool
-    ensures* { λ r. ⌜ r ≡ is_marked x.now atom ⌝ }
+    ensures { result ≡ is_marked x.now atom }
 {
     let i = atom as usize;
     if x.len() <= i {
@@ -39,7 +39,7 @@ fn gather(
     x: &[u8],
 ) -> usize
     requires { Filled m atoms.old xs.old ys.old ks.old }
-    ensures* { λ r. ⌜ Gathered m (in_force x.now (stated m atoms.old xs.old ys.old ks.old)) r atoms.new xs.new ys.new ks.new ⌝ }
+    ensures { Gathered m (in_force x.now (stated m atoms.old xs.old ys.old ks.old)) result atoms.new xs.new ys.new ks.new }
 {
     let mut n = 0;
     let mut i = 0;
@@ -65,7 +65,7 @@ fn gather(
 // 11 with the smallest marked name whose time is above the latest, or nothing.
 fn late(names: &[u8], times: &[u64]) -> Step
     requires { length names.now ≤ length times.now }
-    ensures* { λ r. ⌜ as_checked r ≡ in_time (marked_from 0 names.now) (time_at times.now) ⌝ }
+    ensures { as_checked result ≡ in_time (marked_from 0 names.now) (time_at times.now) }
 {
     let mut i = 0;
     while i < names.len() {
@@ -88,7 +88,7 @@ fn late(names: &[u8], times: &[u64]) -> Step
 // 11, or the timetable of the marked names with their times and of the atoms of x, written into the room.
 fn written(names: &[u8], times: &[u64], x: &[u8], room: &mut [u8]) -> Verdict
     requires { Writable names.now times.now x.now room.old }
-    ensures* { λ r. ⌜ ((cycle : List ℕ) → result r room.new cycle ≡ accepting (rooms room.old cycle) (table (marked_from 0 names.now) (time_at times.now) (marked_from 1 x.now))) ⌝ }
+    ensures { (cycle : List ℕ) → as_result result room.new cycle ≡ accepting (rooms room.old cycle) (table (marked_from 0 names.now) (time_at times.now) (marked_from 1 x.now)) }
 {
     let s = late(names, times);
     let Step::Good(_) = s else {
@@ -111,7 +111,7 @@ fn settled(
 ) -> Verdict
     requires labelled { Labelled labels.now xs.now ys.now ks.now × (length names.now ≡ term_places) }
     requires candidate { Candidate x.now × Sized room.old cycle.old }
-    ensures* { λ r. ⌜ Settled (length ks.now) (diff_at xs.now ys.now ks.now) labels.now names.now x.now (rooms room.old cycle.old) (result r room.new cycle.new) ⌝ }
+    ensures { Settled (length ks.now) (diff_at xs.now ys.now ks.now) labels.now names.now x.now (rooms room.old cycle.old) (as_result result room.new cycle.new) }
 {
     let mut times = [0u64; TERM_PLACES];
     let o = diffs::decide(xs, ys, ks, labels, labels, &mut times, cycle);
@@ -138,7 +138,7 @@ pub fn timed(
 ) -> Verdict
     requires filled { Filled m atoms.old xs.old ys.old ks.old × Candidate x.now }
     requires sized { Sized room.old cycle.old }
-    ensures* { λ r. ⌜ ((ls : List Line) → Stating ls m atoms.old xs.old ys.old ks.old → Timed (ready_at ls x.now) (rooms room.old cycle.old) (result r room.new cycle.new)) ⌝ }
+    ensures { (ls : List Line) → Stating ls m atoms.old xs.old ys.old ks.old → Timed (ready_at ls x.now) (rooms room.old cycle.old) (as_result result room.new cycle.new) }
 {
     let mut names = [0u8; TERM_PLACES];
     mark_names(xs, ys, m, &mut names);
