@@ -1,0 +1,13 @@
+-- `first_broken`: the lines ahead have the first broken rule of all lines, since those passed are whole. Assumes nothing.
+use mathlib.Core.Logic.{⊎_elim}
+use native.Mathlib.Omega.{arith}
+use borrow.Author.Rules.{rules}
+use Rattle.basics.specs.inner.Bitmaps.{is_marked}
+use Rattle.stable.proofs.Breaking.{Passed, start, here, rule_here, broken_here, pass_whole, pass_other, end}
+use Rattle.stable.proofs.first_broken.Given as goal
+
+abbrev pub invariant-loop-left : goal.invariant-loop-left
+invariant-loop-left l = Passed (is_marked l.x) l.tape l.n l.p l.left
+
+abbrev pub decreases-loop-left : goal.decreases-loop-left
+decreases-loop-left l = l.left

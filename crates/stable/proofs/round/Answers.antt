@@ -1,0 +1,15 @@
+-- `round`: each visit adds only what every model has, and nothing where nothing is new. Assumes nothing.
+use Prim.Native.Nat.{◌-◌}
+use native.Mathlib.Omega.{arith}
+use Rattle.basics.specs.inner.Bitmaps.{is_marked}
+use Rattle.stable.proofs.Rounds.{Turn, start, rule_here, few, visit, end}
+use Rattle.stable.proofs.round.Goals as goal
+
+pub fire-k-requires-clause-rule_on : goal.fire-k-requires-clause-rule_on
+fire-k-requires-clause-rule_on c = let loop = c.loop-i in rule_here loop.invariant c.requires.readable c.loop-i-test.true
+
+pub overflow_add-t : goal.overflow_add-t
+overflow_add-t c = omega (arith, few c.loop-i.invariant c.fire-k.ensures c.fire-k.auto.found)
+
+pub loop-i-preserved : goal.loop-i-preserved
+loop-i-preserved c = visit c.loop-i.invariant c.fire-k.ensures c.fire-k.auto.found c.loop-i-test.true

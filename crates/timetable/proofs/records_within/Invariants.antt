@@ -1,0 +1,13 @@
+-- `timetable::records_within` meets its contract: whether the records that are left are within the bounds is the whole answer.
+use borrow.Author.Rules.{rules}
+use Prim.Native.Nat.{◌+◌, ◌*◌, ◌≤◌}
+use mathlib.Core.Path.{◌≡◌, refl, ◌∙◌}
+use lib.ListN.{length}
+use Rattle.timetable.proofs.Reading.{records_left, records_end, records-low, records_high, records-late, records_on}
+use Rattle.timetable.proofs.records_within.Given as goal
+
+abbrev pub invariant-loop-left : goal.invariant-loop-left
+invariant-loop-left l = (records_left l.table l.low l.left l.p ≡ records_left l.table 0 l.n l.from) × (l.p + 8 * l.left ≤ length l.table)
+
+abbrev pub decreases-loop-left : goal.decreases-loop-left
+decreases-loop-left l = l.left

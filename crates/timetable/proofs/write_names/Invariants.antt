@@ -1,0 +1,20 @@
+-- `timetable::write_names` meets its contract: what is written, with the records still to come, is the room that is promised.
+-- Eight bytes are written for each name that is behind.
+use borrow.Author.Rules.{rules}
+use Prim.Native.Nat.{◌+◌, ◌-◌, ◌*◌}
+use mathlib.Core.Path.{◌≡◌, refl, ap, ◌∙◌}
+use native.Mathlib.Omega.{arith}
+use borrow.Author.Tests.{eq-eqb}
+use lib.ListN.{length}
+use Rattle.basics.specs.inner.Bitmaps.{marked_from}
+use Rattle.timetable.proofs.Marks.{few-marked, marked-none, marked_pass, marked-take}
+use Rattle.timetable.proofs.Writing.{with_records, records-none, records_pass, records-take}
+use Rattle.timetable.proofs.write_names.Given as goal
+
+abbrev pub invariant-loop-i : goal.invariant-loop-i
+invariant-loop-i l = (with_records l.part l.at l.i l.names l.times ≡ with_records l.initial.part 0 0 l.names l.times)
+    × (l.at + 8 * length (marked_from l.i l.names) ≡ 8 * length (marked_from 0 l.names))
+    × (length l.part ≡ length l.initial.part)
+
+abbrev pub decreases-loop-i : goal.decreases-loop-i
+decreases-loop-i l = length l.names - l.i
