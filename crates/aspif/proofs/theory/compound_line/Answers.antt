@@ -1,0 +1,58 @@
+-- `aspif::theory::compound_line` meets its contract: the words so far grow with each field. Assumes nothing.
+use borrow.Author.Rules.{rules}
+use mathlib.Core.Path.{◌∙◌}
+use mathlib.Core.List.{[], ◌∷◌}
+use native.Mathlib.Omega.{arith}
+use lib.Dec.{lit<}
+use Rattle.fields.proofs.Readers.{reads-ends, next_integer-reads, next_term-reads}
+use Rattle.fields.proofs.Taping.{on_fault, on_start, on_more, on_last}
+use Rattle.aspif.specs.Grammar.{compound_line}
+use Rattle.aspif.proofs.Coding.{integer_forth}
+use Rattle.aspif.proofs.theory.compound_line.Goals as goal
+
+pub returns-in_default-clause-tape_after : goal.returns-in_default-clause-tape_after
+unfolding compound_line
+returns-in_default-clause-tape_after c = rw (← c.next_term-a.ensures, c.refusal.ensures) (on_fault _ _ _ _ _)
+
+pub returns-in_default-b-clause-tape_after : goal.returns-in_default-b-clause-tape_after
+unfolding compound_line
+returns-in_default-b-clause-tape_after c = rw (← c.next_term-a.ensures, c.in-Got.is, ← c.next_integer-b.ensures, c.refusal-in_default-b.ensures) (on_fault _ _ _ _ _)
+
+pub begin_term-o1-requires : goal.begin_term-o1-requires
+begin_term-o1-requires c = let ea = rw c.in-Got.is at c.next_term-a.ensures in
+    let fa = reads-ends (lit< tt) (next_term-reads _ _) _ _ ea in
+    let eb = rw c.in-Got-b.is at c.next_integer-b.ensures in
+    let fb = reads-ends (lit< tt) (next_integer-reads _ _ _ _) _ _ eb in
+    omega arith
+
+pub put-o2-requires : goal.put-o2-requires
+put-o2-requires c = let ea = rw c.in-Got.is at c.next_term-a.ensures in
+    let fa = reads-ends (lit< tt) (next_term-reads _ _) _ _ ea in
+    let eb = rw c.in-Got-b.is at c.next_integer-b.ensures in
+    let fb = reads-ends (lit< tt) (next_integer-reads _ _ _ _) _ _ eb in
+    rw c.begin_term-o1.auto.tape (omega arith)
+
+pub counted-requires : goal.counted-requires
+counted-requires c = let pre = c.requires in
+    let next-term = c.next_term-a in
+    let next-integer = c.next_integer-b in
+    let begin-term = c.begin_term-o1 in
+    let put = c.put-o2 in
+    let p = pre in
+    let ea = rw c.in-Got.is at next-term.ensures in
+    let fa = reads-ends (lit< tt) (next_term-reads _ _) _ _ ea in
+    let eb = rw c.in-Got-b.is at next-integer.ensures in
+    let fb = reads-ends (lit< tt) (next_integer-reads _ _ _ _) _ _ eb in
+    let nbeginwith = begin-term.ensures.1 in
+    let nput = put.ensures.1 in
+    (omega arith, omega arith, rw (c.put-o2.auto.tape ∙ c.begin_term-o1.auto.tape) (omega arith))
+
+pub returns-clause-tape_after : goal.returns-clause-tape_after
+unfolding compound_line
+returns-clause-tape_after c = let next-term = c.next_term-a in
+    let next-integer = c.next_integer-b in
+    let begin-term = c.begin_term-o1 in
+    let put = c.put-o2 in
+    let eb = rw c.in-Got-b.is at next-integer.ensures in rw (← next-term.ensures, c.in-Got.is, ← next-integer.ensures, c.in-Got-b.is) (c.counted.ensures.tape_after ∙ on_last _ _ _ _ _ _ _
+          (on_more _ _ _ (_ ∷ []) (on_more _ _ _ (_ ∷ _ ∷ []) (on_start _ _) begin-term.ensures.0 begin-term.ensures.1) put.ensures.0 put.ensures.1)
+          (λ us. rw (integer_forth _ _ _ _ _ _ eb)))
