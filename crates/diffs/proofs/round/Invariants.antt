@@ -1,0 +1,19 @@
+-- `round`: the differences below i are passed, in whichever round; that some round is under way bounds the times.
+use borrow.Author.Rules.{rules}
+use mathlib.Core.Path.{◌≡◌, sym, subst, ◌∙◌}
+use mathlib.Core.Logic.{inl, inr, ⊎_elim}
+use Prim.Native.Nat.{ℕ, ◌-◌, ◌≤◌}
+use native.Mathlib.Omega.{arith}
+use lib.ListN.{length, get_or}
+use lib.IntN.{pos}
+use Rattle.diffs.specs.inner.Answer.{diff_at}
+use Rattle.diffs.specs.inner.Steps.{Mid, RoundUpTo}
+use Rattle.diffs.proofs.Signs.{back32, down-small}
+use Rattle.diffs.proofs.Rounds.{room, begin, stepped}
+use Rattle.diffs.proofs.round.Given as goal
+
+abbrev pub invariant-loop-i : goal.invariant-loop-i
+invariant-loop-i l = (l.i ≤ length l.ks) × RoundUpTo (length l.ks) (length l.initial.t) (diff_at l.xs l.ys l.ks) l.i l.last l.initial.t l.initial.p l.t l.p
+
+abbrev pub decreases-loop-i : goal.decreases-loop-i
+decreases-loop-i l = length l.ks - l.i

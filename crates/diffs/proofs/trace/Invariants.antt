@@ -1,0 +1,17 @@
+-- `trace`: what w has from `start` on are the parents from `last` back to a, all of different names.
+use borrow.Author.Rules.{rules}
+use mathlib.Core.Path.{◌≡◌, refl, ◌∙◌}
+use Prim.Native.Nat.{ℕ, ◌-◌, ◌<◌, ◌≤◌}
+use native.Mathlib.Omega.{arith}
+use lib.ListN.{length, drop, length-set}
+use mir.Facts.{to_z-of_z}
+use Rattle.diffs.specs.inner.Answer.{cell, diff_at}
+use Rattle.diffs.specs.inner.Steps.{Numbers}
+use Rattle.diffs.proofs.Tracing.{Tracing, started_at, number_at, twice_at, room_left, parent_at, onward_at}
+use Rattle.diffs.proofs.trace.Given as goal
+
+abbrev pub invariant-loop-a : goal.invariant-loop-a
+invariant-loop-a l = (l.start ≤ length l.w) × (length l.w ≡ l.top) × Tracing (length l.ks) (length l.p) (diff_at l.xs l.ys l.ks) l.initial.a.0 l.p l.a.0 (drop l.start l.w)
+
+abbrev pub decreases-loop-a : goal.decreases-loop-a
+decreases-loop-a l = l.start

@@ -1,0 +1,13 @@
+-- `collect`: what is gathered, and what the lines to come give, is the answer; each turn takes one line.
+use mathlib.Core.Path.{◌∙◌}
+use Rattle.aspif.proofs.Walking.{ahead_starts, ahead-next, after-inside}
+use Rattle.terms.proofs.Turns.{room_left}
+use Rattle.terms.proofs.Walks.{Underway, Kept, kept-start, kept-room, at_first, at_refusal, at_next, at_last, at_end}
+use borrow.Author.Rules.{rules}
+use Rattle.terms.proofs.collect.Given as goal
+
+abbrev pub invariant-loop-left : goal.invariant-loop-left
+invariant-loop-left l = Underway l.text l.tape l.n l.p l.left l.m l.terms l.elements l.seen l.atoms l.xs l.ys l.ks × Kept l.initial.atoms l.initial.xs l.initial.ys l.initial.ks l.atoms l.xs l.ys l.ks
+
+abbrev pub decreases-loop-left : goal.decreases-loop-left
+decreases-loop-left l = l.left

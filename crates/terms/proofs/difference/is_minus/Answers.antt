@@ -1,0 +1,13 @@
+-- `is_minus`: a term number, that of the string `-`.
+use mathlib.Core.Path.{◌∙◌}
+use Rattle.terms.specs.inner.Tables.{look_in}
+use Rattle.terms.proofs.Reading.{minus_other, minus-term}
+use borrow.Author.Rules.{rules}
+use Rattle.terms.proofs.difference.is_minus.Goals as goal
+
+pub returns-then-is_term : goal.returns-then-is_term
+returns-then-is_term c = let args = c.args in
+    c.named.ensures ∙ minus-term (look_in args.tape.now args.terms.now) args.t _ c.is_term.ensures c.if-is_term.true
+
+pub returns : goal.returns
+returns c = minus_other (look_in c.args.tape.now c.args.terms.now) c.args.t _ c.is_term.ensures c.if-is_term.false

@@ -1,0 +1,10 @@
+-- `mark_all`: what was marked, and the numbers passed.
+use Prim.Native.Nat.{◌-◌}
+use mathlib.Core.Path.{◌≡◌}
+use native.Mathlib.Omega.{arith}
+use Rattle.terms.proofs.Marking.{Marking, marking_start, marking_next}
+use borrow.Author.Rules.{rules}
+use Rattle.terms.proofs.marks.mark_all.Goals as goal
+
+pub loop-i-preserved : goal.loop-i-preserved
+loop-i-preserved c = marking_next _ c.loop-i-test.true c.requires c.mark.ensures c.loop-i.invariant

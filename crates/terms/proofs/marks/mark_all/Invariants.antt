@@ -1,0 +1,13 @@
+-- `mark_all`: what was marked, and the numbers passed.
+use Prim.Native.Nat.{◌-◌}
+use mathlib.Core.Path.{◌≡◌}
+use native.Mathlib.Omega.{arith}
+use Rattle.terms.proofs.Marking.{Marking, marking_start, marking_next}
+use borrow.Author.Rules.{rules}
+use Rattle.terms.proofs.marks.mark_all.Given as goal
+
+abbrev pub invariant-loop-i : goal.invariant-loop-i
+invariant-loop-i l = Marking l.list l.initial.bits l.bits l.i l.m
+
+abbrev pub decreases-loop-i : goal.decreases-loop-i
+decreases-loop-i l = l.m - l.i
