@@ -1,4 +1,4 @@
-/* The plan judge for C: the exported functions of the proved crate judge_c (rt staticlib judge_c).
+/* The plan judge for C: the exported functions of the proved crate judge_c, a static library (rt lib there).
  *
  * Every function takes numbers and slices only and has no condition on what a slice holds. A slice is passed as a
  * pointer and then its length in elements. Its memory must be there for the length given, and a pointer is never null:
