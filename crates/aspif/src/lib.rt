@@ -1,5 +1,6 @@
 // The reader: a text becomes statements on a tape, or a refusal with its number and place; a candidate becomes a bitmap.
 #![tactic(auto)]
+
 ghost use Rattle.std.specs.Prelude.{◌≡◌, ◌≤◌, length};
 ghost use Rattle.faults.specs.Answer.{mapped};
 ghost use Rattle.faults.specs.Values.{as_step};

@@ -1,6 +1,7 @@
 // The earliest times that keep differences x - y ≤ k, or a negative cycle.
 // Difference number i is xs[i] - ys[i] ≤ ks[i]. A cycle is shown from its smallest keys[i] on, and labels[i] is the number that shows the difference.
 #![tactic(auto)]
+
 ghost use Rattle.std.specs.Prelude.{◌≡◌, List, map, ℕ, ◌-◌, ◌<◌, ◌≤◌, ◌^◌, min, length};
 ghost use Rattle.std.proofs.Math.Seq.{slice};
 ghost use Rattle.faults.specs.inner.Places.{term_places};

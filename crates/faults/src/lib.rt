@@ -1,5 +1,6 @@
 // The vocabulary of docs/RULES.md: the kinds of refusal, a refusal with its place, the three countings.
 #![tactic(auto)]
+
 ghost use Rattle.std.specs.Prelude.{◌≡◌, false};
 ghost use Rattle.faults.specs.Answer.{is_got, refused};
 ghost use Rattle.faults.specs.Values.{number, as_step};

@@ -1,5 +1,6 @@
 // A cursor on a text, and the fields of a line: each method takes the cursor and gives the field with the next cursor.
 #![tactic(auto)]
+
 ghost use Rattle.std.specs.Prelude.{◌≡◌, false, List, ℕ};
 ghost use Rattle.fields.specs.Reading.{is_found};
 ghost use Rattle.fields.specs.inner.Values.{fault_of, as_passed, as_end, as_word, as_atom, as_term, as_element, as_wrote};

@@ -13,7 +13,7 @@ use Rattle.basics.proofs.Bitmaps.{first_in}
 use Rattle.aspif.specs.Statements.{comp, elem, guard, defines, collects, states, Statement, theory, Line, theory_in}
 use Rattle.diffs.specs.Diff.{Diff}
 use Rattle.terms.specs.Says.{term_in, term, element_in, element_at, Bound, direct, under_minus, Difference, Says, Name}
-use Rattle.judge.specs.Plan.{Ready, holds, Held, InForce}
+use Rattle.judge.specs.Plan.{Ready, Held, InForce}
 use Rattle.further.specs.Later.{functor, terms, elements, Unused, Added, a_term, an_element, an_atom, a_fact, Grown, done, keep, add, Later}
 use Rattle.further.proofs.Lists.{not_true, not-both, rest_in, Has}
 use Rattle.further.proofs.Added.{says_on, says_back, unused_in, old_holds, candidate-same}

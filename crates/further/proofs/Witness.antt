@@ -37,7 +37,7 @@ use Rattle.judge.proofs.Readable.{readable-got}
 use Rattle.judge.proofs.Demand2.{demand_2}
 use Rattle.judge.proofs.SendRecv.{times, two-names}
 use Rattle.judge.proofs.Starred.{starred}
-use Rattle.judge.proofs.Texts.{SaysLines, lines_p, two, three, stated, candidates as old-candidates, texts as old-texts}
+use Rattle.judge.proofs.Texts.{SaysLines, lines_p, two, three, candidates as old-candidates, texts as old-texts}
 use Rattle.judge.proofs.Ascent.{of_member}
 use Rattle.further.proofs.Saying.{still-name}
 use Rattle.further.proofs.Theorem.{demand_3}

@@ -1,5 +1,6 @@
 // The judge: a plan text and a candidate in, a verdict and a timetable or a cycle out.
 #![tactic(auto)]
+
 ghost use Rattle.std.specs.Prelude.{◌≡◌, ◌≤◌, length};
 ghost use Rattle.faults.specs.Limits.{longest_text};
 ghost use Rattle.faults.specs.inner.Places.{short_text};

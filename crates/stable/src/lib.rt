@@ -1,5 +1,6 @@
 // Stable candidates: the first broken rule, the least model of the reduct, the smallest unfounded atom.
 #![tactic(auto)]
+
 ghost use Rattle.std.specs.Prelude.{◌≡◌, ◌&&◌, ℕ, ◌+◌, ◌*◌, ◌/◌, ◌≤◌, ◌<◌, eqb, leb, length};
 ghost use Rattle.std.proofs.Math.Option.{some};
 ghost use Rattle.basics.specs.Lists.{among};

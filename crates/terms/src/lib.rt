@@ -1,5 +1,6 @@
 // Terms and theory atoms: refusals 61 to 64, or what the difference atoms say.
 #![tactic(auto)]
+
 ghost use Rattle.std.specs.Prelude.{◌≡◌, ◌≤◌, length};
 ghost use Rattle.faults.specs.Limits.{longest_text};
 ghost use Rattle.aspif.specs.inner.Words.{lines_of};

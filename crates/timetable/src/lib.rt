@@ -1,5 +1,6 @@
 // The timetable: writes its bytes into a room that is lent, and reads a time from them.
 #![tactic(auto)]
+
 ghost use Rattle.std.specs.Prelude.{◌≡◌, ◌+◌, ◌-◌, ◌*◌, ◌≤◌, ◌%◌, ◌&&◌, ◌++◌, length};
 ghost use Rattle.std.proofs.lemmas.List.Edits.{sets};
 ghost use Rattle.basics.specs.inner.Bitmaps.{marked_from};

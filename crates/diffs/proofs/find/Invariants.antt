@@ -1,9 +1,6 @@
 -- `find`: no place passed so far has a difference that raises a.
-use borrow.Author.Rules.{rules}
-use borrow.Author.Count.{below_more}
 use mathlib.Core.Path.{◌≡◌}
 use Prim.Native.Nat.{ℕ, ◌-◌, ◌<◌, ◌≤◌}
-use native.Mathlib.Omega.{arith}
 use lib.ListN.{length}
 use Rattle.diffs.specs.inner.Answer.{cell}
 use Rattle.diffs.proofs.find.Given as goal

@@ -1,12 +1,6 @@
 -- `least`: q has the smallest key of the places passed.
-use borrow.Author.Rules.{rules}
-use borrow.Author.Count.{below_more}
-use mathlib.Core.Path.{◌≡◌, sym, ap, subst}
-use mathlib.Core.Logic.{◌⊎◌, inl, inr, ⊎_elim}
 use mathlib.Core.List.{List}
-use Prim.Native.Nat.{ℕ, ◌+◌, ◌-◌, ◌<◌, ◌≤◌}
-use native.Mathlib.Nat.{le_refl}
-use native.Mathlib.Omega.{arith}
+use Prim.Native.Nat.{ℕ, ◌-◌, ◌<◌, ◌≤◌}
 use Rattle.diffs.specs.inner.Answer.{cell}
 use Rattle.diffs.proofs.least.Given as goal
 

@@ -1,15 +1,8 @@
 -- `round`: the differences below i are passed, in whichever round; that some round is under way bounds the times.
-use borrow.Author.Rules.{rules}
-use mathlib.Core.Path.{◌≡◌, sym, subst, ◌∙◌}
-use mathlib.Core.Logic.{inl, inr, ⊎_elim}
-use Prim.Native.Nat.{ℕ, ◌-◌, ◌≤◌}
-use native.Mathlib.Omega.{arith}
-use lib.ListN.{length, get_or}
-use lib.IntN.{pos}
+use Prim.Native.Nat.{◌-◌, ◌≤◌}
+use lib.ListN.{length}
 use Rattle.diffs.specs.inner.Answer.{diff_at}
-use Rattle.diffs.specs.inner.Steps.{Mid, RoundUpTo}
-use Rattle.diffs.proofs.Signs.{back32, down-small}
-use Rattle.diffs.proofs.Rounds.{room, begin, stepped}
+use Rattle.diffs.specs.inner.Steps.{RoundUpTo}
 use Rattle.diffs.proofs.round.Given as goal
 
 abbrev pub invariant-loop-i : goal.invariant-loop-i

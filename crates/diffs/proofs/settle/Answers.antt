@@ -1,13 +1,8 @@
 -- `settle`: r rounds are made, each of which raised something, the last one the name `last`.
-use borrow.Author.Rules.{rules}
-use mathlib.Core.Path.{refl, sym, ◌∙◌}
-use Prim.Native.Nat.{◌+◌, ◌-◌, ◌≤◌}
+use mathlib.Core.Path.{refl}
 use native.Mathlib.Omega.{arith}
-use lib.ListN.{length}
-use Rattle.diffs.specs.inner.Answer.{diff_at}
-use Rattle.diffs.specs.inner.Steps.{BeforeRound}
 use Rattle.diffs.specs.declared.Raised.TheVariants.{Quiet, Name}
-use Rattle.diffs.proofs.Rounds.{first, quiet, next, stuck, underway, rounded}
+use Rattle.diffs.proofs.Rounds.{first, quiet, next, stuck, rounded}
 use Rattle.diffs.proofs.settle.Goals as goal
 
 pub loop-r-init : goal.loop-r-init

@@ -1,17 +1,11 @@
-use mathlib.Core.Path.{◌≡◌, sym, ap, subst, ◌∙◌}
-use mathlib.Core.List.{map}
-use Prim.Native.Nat.{ℕ, ◌-◌}
-use native.Mathlib.Omega.{arith}
+use Prim.Native.Nat.{◌-◌}
 use lib.ListN.{get_or}
-use lib.Seq.{slice}
-use lib.IntN.{ℤ, pos}
-use mir.Syntax.{w32, w64}
-use mir.Val.{SFits, to_z, of_z}
-use mir.Facts.{sfits_widen}
-use Rattle.diffs.specs.Diff.{Sum}
-use Rattle.diffs.specs.inner.Answer.{cell, diff_at}
-use Rattle.diffs.proofs.Signs.{back32, back64}
-use Rattle.diffs.proofs.Summing.{Summed, begun, fits_sum, summed-more}
+use lib.IntN.{pos}
+use mir.Syntax.{w32}
+use mir.Val.{SFits}
+use Rattle.diffs.specs.inner.Answer.{cell}
+use Rattle.diffs.proofs.Signs.{back64}
+use Rattle.diffs.proofs.Summing.{summed-more}
 use borrow.Author.Rules.{rules}
 use Rattle.diffs.proofs.sum_of.Goals as goal
 

@@ -4,13 +4,13 @@ use mathlib.Core.Path.{◌≡◌, refl, ◌∙◌}
 use mathlib.Core.List.{List}
 use Prim.Native.Nat.{ℕ, ◌-◌, ◌<◌, ◌≤◌}
 use native.Mathlib.Omega.{arith}
-use lib.ListN.{length, drop, length-set}
+use lib.ListN.{length, length-set}
 use mir.Syntax.{w64}
 use mir.Val.{SFits}
 use mir.Facts.{to_z-of_z}
-use Rattle.diffs.specs.inner.Answer.{cell, diff_at}
+use Rattle.diffs.specs.inner.Answer.{cell}
 use Rattle.diffs.specs.inner.Steps.{Numbers, FoundPlace}
-use Rattle.diffs.proofs.Tracing.{Tracing, started_at, number_at, twice_at, room_left, parent_at, onward_at}
+use Rattle.diffs.proofs.Tracing.{started_at, number_at, twice_at, room_left, parent_at, onward_at}
 use Rattle.diffs.proofs.trace.Goals as goal
 
 -- a name came twice: the part up to behind its place
@@ -72,8 +72,7 @@ loop-a-smaller c =
 pub loop-a-preserved : goal.loop-a-preserved
 loop-a-preserved c =
     let l = c.loop-a in
-    let u = unseen _ _ _ _ _ c.find-q.ensures (omega (arith, l.invariant.1)) in
-    (
+    let u = unseen _ _ _ _ _ c.find-q.ensures (omega (arith, l.invariant.1)) in (
       simp length-set (omega (arith, l.invariant.0)),
       length-set l.w (l.start - 1) _ ∙ l.invariant.1,
       onward_at _ _ _ _ _ _ _ _ l.invariant.0 l.invariant.2 u (room_left _ _ _ _ _ _ _ _ l.invariant.0 l.invariant.2 u (omega (arith, c.requires.room, l.invariant.1))),

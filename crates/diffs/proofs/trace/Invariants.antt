@@ -1,13 +1,9 @@
 -- `trace`: what w has from `start` on are the parents from `last` back to a, all of different names.
-use borrow.Author.Rules.{rules}
-use mathlib.Core.Path.{◌≡◌, refl, ◌∙◌}
-use Prim.Native.Nat.{ℕ, ◌-◌, ◌<◌, ◌≤◌}
-use native.Mathlib.Omega.{arith}
-use lib.ListN.{length, drop, length-set}
-use mir.Facts.{to_z-of_z}
-use Rattle.diffs.specs.inner.Answer.{cell, diff_at}
-use Rattle.diffs.specs.inner.Steps.{Numbers}
-use Rattle.diffs.proofs.Tracing.{Tracing, started_at, number_at, twice_at, room_left, parent_at, onward_at}
+use mathlib.Core.Path.{◌≡◌}
+use Prim.Native.Nat.{◌≤◌}
+use lib.ListN.{length, drop}
+use Rattle.diffs.specs.inner.Answer.{diff_at}
+use Rattle.diffs.proofs.Tracing.{Tracing}
 use Rattle.diffs.proofs.trace.Given as goal
 
 abbrev pub invariant-loop-a : goal.invariant-loop-a

@@ -3,7 +3,6 @@ use Prim.Native.Nat.{ℕ}
 use mathlib.Core.Path.{refl, sym, ap, ◌∙◌}
 use mathlib.Core.List.{List, []}
 use native.Mathlib.Omega.{arith}
-use borrow.Author.Rules.{rules}
 use Rattle.faults.specs.inner.Places.{atom_places}
 use Rattle.faults.specs.Answer.{mapped}
 use Rattle.terms.specs.Terms.{Stated}

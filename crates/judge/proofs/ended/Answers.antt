@@ -1,8 +1,4 @@
 -- `judge::ended` meets its contract: a refusal is the verdict; else the times of the candidate's front decide. Assumes nothing.
-use mathlib.Core.Path.{sym}
-use native.Mathlib.Omega.{arith}
-use borrow.Author.Rules.{rules}
-use lib.Seq.{length-take-le}
 use Rattle.judge.proofs.Said.{stating_filled}
 use Rattle.judge.proofs.Staging.{front-ready, front-candidate}
 use Rattle.judge.proofs.ended.Goals as goal

@@ -2,7 +2,6 @@
 use Prim.Native.Nat.{ℕ}
 use mathlib.Core.Path.{sym, ap, ◌∙◌}
 use native.Mathlib.Omega.{arith}
-use borrow.Author.Rules.{rules}
 use lib.ListN.{length-replicate}
 use Rattle.faults.specs.Limits.{longest_text}
 use Rattle.faults.specs.Answer.{mapped}

@@ -1,6 +1,5 @@
 -- `add_single`: an empty head adds nothing, a single one its atom. Assumes nothing.
 use native.Mathlib.Omega.{arith}
-use borrow.Author.Rules.{rules}
 use Rattle.stable.proofs.Heads.{none_added, one_added, atom}
 use Rattle.stable.proofs.Lines.{read_word}
 use Rattle.stable.proofs.add_single.Goals as goal

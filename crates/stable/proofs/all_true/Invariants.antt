@@ -1,8 +1,5 @@
 -- `all_true`: what is left of the literals decides as all of them did, up to the first false one. Assumes nothing.
-use native.Mathlib.Omega.{arith}
-use borrow.Author.Tests.{not-true, not-false}
-use Rattle.stable.proofs.Literals.{Walk, start, here, atom, pass, fail, end}
-use Rattle.stable.proofs.Lines.{read_word}
+use Rattle.stable.proofs.Literals.{Walk}
 use Rattle.stable.proofs.all_true.Given as goal
 
 abbrev pub invariant-loop-left : goal.invariant-loop-left

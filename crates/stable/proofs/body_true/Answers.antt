@@ -1,7 +1,5 @@
 -- `body_true`: by the kind of the body, all of its literals, or its bound. Assumes nothing.
 use mathlib.Core.Path.{◌∙◌}
-use native.Mathlib.Omega.{arith}
-use borrow.Author.Rules.{rules}
 use Rattle.stable.proofs.Bodies.{literals_on, premises_on, normal-same, weights-same}
 use Rattle.stable.proofs.body_true.Goals as goal
 

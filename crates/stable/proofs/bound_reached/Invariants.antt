@@ -1,8 +1,5 @@
 -- `bound_reached`: what is left of the premises reaches what is due exactly if all of them reach the bound. Assumes nothing.
-use mathlib.Core.Logic.{⊎_elim}
-use native.Mathlib.Omega.{arith}
-use Rattle.stable.proofs.Weighing.{Walk, none, start, here, atom, pass, close, take, end}
-use Rattle.stable.proofs.Lines.{read_word}
+use Rattle.stable.proofs.Weighing.{Walk}
 use Rattle.stable.proofs.bound_reached.Given as goal
 
 abbrev pub invariant-loop-left : goal.invariant-loop-left

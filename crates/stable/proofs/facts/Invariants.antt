@@ -1,10 +1,8 @@
 -- `facts`: the places filled so far hold the external atoms in x. Assumes nothing.
 use Prim.Native.Nat.{◌-◌, ◌≤◌}
-use native.Mathlib.Omega.{arith}
-use borrow.Author.Rules.{rules}
 use Rattle.basics.specs.inner.Bitmaps.{NoneFrom}
 use Rattle.faults.specs.inner.Places.{atom_places}
-use Rattle.stable.proofs.Filling.{Filled, start, fill, end}
+use Rattle.stable.proofs.Filling.{Filled}
 use Rattle.stable.proofs.facts.Given as goal
 
 abbrev pub invariant-loop-a : goal.invariant-loop-a

@@ -1,9 +1,5 @@
 -- `fire`: a false body adds nothing, a true one the heads in the reduct. Assumes nothing.
-use Prim.Native.Nat.{◌+◌}
-use native.Mathlib.Omega.{arith}
-use borrow.Author.Rules.{rules}
-use borrow.Author.Tests.{not-true, not-false}
-use Rattle.stable.proofs.Heads.{heads-inside, plain_small, choice-small, body_on, idle, chosen, plain}
+use Rattle.stable.proofs.Heads.{choice-small, body_on, idle, chosen, plain}
 use Rattle.stable.proofs.Lines.{read_word}
 use Rattle.stable.proofs.fire.Goals as goal
 

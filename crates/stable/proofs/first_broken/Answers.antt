@@ -1,9 +1,6 @@
 -- `first_broken`: the lines ahead have the first broken rule of all lines, since those passed are whole. Assumes nothing.
-use mathlib.Core.Logic.{⊎_elim}
 use native.Mathlib.Omega.{arith}
-use borrow.Author.Rules.{rules}
-use Rattle.basics.specs.inner.Bitmaps.{is_marked}
-use Rattle.stable.proofs.Breaking.{Passed, start, here, rule_here, broken_here, pass_whole, pass_other, end}
+use Rattle.stable.proofs.Breaking.{here, rule_here, broken_here, pass_whole, pass_other, end}
 use Rattle.stable.proofs.first_broken.Goals as goal
 use Rattle.stable.proofs.first_broken.Goals.{then-word_at-eq-RULE+else-is_broken, else-word_at-eq-RULE}
 
@@ -26,10 +23,11 @@ pub after_at-p-requires : goal.after_at-p-requires
 after_at-p-requires c = omega (arith, here c.loop-left.invariant c.loop-left-test.true)
 
 pub loop-left-preserved : goal.loop-left-preserved
-loop-left-preserved c = 
+loop-left-preserved c =
     elim c.if-word_at-eq-RULE.branch [
-      then-word_at-eq-RULE+else-is_broken w ↦ pass_whole c.loop-left.invariant c.loop-left-test.true c.word_at.ensures.0 w.if-word_at-eq-RULE.true w.is_broken.ensures w.if-is_broken.false c.after_at-p.ensures
-    | else-word_at-eq-RULE w ↦ pass_other c.loop-left.invariant c.loop-left-test.true c.word_at.ensures.0 w.if-word_at-eq-RULE.false c.after_at-p.ensures ]
+      | then-word_at-eq-RULE+else-is_broken w ↦ pass_whole c.loop-left.invariant c.loop-left-test.true c.word_at.ensures.0 w.if-word_at-eq-RULE.true w.is_broken.ensures w.if-is_broken.false c.after_at-p.ensures
+      | else-word_at-eq-RULE w ↦ pass_other c.loop-left.invariant c.loop-left-test.true c.word_at.ensures.0 w.if-word_at-eq-RULE.false c.after_at-p.ensures
+    ]
 
 pub returns : goal.returns
 returns c = end c.loop-left.invariant c.loop-left-test.false

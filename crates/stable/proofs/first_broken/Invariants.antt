@@ -1,9 +1,6 @@
 -- `first_broken`: the lines ahead have the first broken rule of all lines, since those passed are whole. Assumes nothing.
-use mathlib.Core.Logic.{⊎_elim}
-use native.Mathlib.Omega.{arith}
-use borrow.Author.Rules.{rules}
 use Rattle.basics.specs.inner.Bitmaps.{is_marked}
-use Rattle.stable.proofs.Breaking.{Passed, start, here, rule_here, broken_here, pass_whole, pass_other, end}
+use Rattle.stable.proofs.Breaking.{Passed}
 use Rattle.stable.proofs.first_broken.Given as goal
 
 abbrev pub invariant-loop-left : goal.invariant-loop-left

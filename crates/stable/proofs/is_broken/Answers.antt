@@ -1,8 +1,5 @@
 -- `is_broken`: a choice rule is whole, so is a rule whose atom is in x, and else the body decides. Assumes nothing.
-use mathlib.Core.Logic.{⊎_elim}
-use Prim.Native.Nat.{◌+◌}
 use native.Mathlib.Omega.{arith}
-use borrow.Author.Rules.{rules}
 use borrow.Author.Tests.{eq-eqb, ne_eqb}
 use Rattle.basics.specs.inner.Bitmaps.{is_marked}
 use Rattle.stable.proofs.Breaking.{choice-whole, head-atom, head-whole, head-broken, empty-broken}
@@ -27,11 +24,11 @@ pub body_true-requires-clause-body_on : goal.body_true-requires-clause-body_on
 body_true-requires-clause-body_on c = body_on c.requires.rule_on (read_word _ _)
 
 pub returns : goal.returns
-returns c = 
+returns c =
     let rule = c.requires.rule_on in
     let x = is_marked c.args.x.now in
     let plain = c.if-tape-q-ne0.false in
     elim c.if-n-ne0.branch [
-      then-n-ne0+else-x-v-eq1 w ↦ head-broken rule x plain (read_word _ _) w.if-n-ne0.true w.atom_at-a.ensures (ne_eqb _ 1 w.if-x-v-eq1.false) c.body_true.ensures
-    | else-n-ne0 w ↦ empty-broken rule x plain (read_word _ _) w.if-n-ne0.false c.body_true.ensures ]
-
+      | then-n-ne0+else-x-v-eq1 w ↦ head-broken rule x plain (read_word _ _) w.if-n-ne0.true w.atom_at-a.ensures (ne_eqb _ 1 w.if-x-v-eq1.false) c.body_true.ensures
+      | else-n-ne0 w ↦ empty-broken rule x plain (read_word _ _) w.if-n-ne0.false c.body_true.ensures
+    ]

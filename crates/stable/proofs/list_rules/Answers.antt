@@ -1,9 +1,6 @@
 -- `list_rules`: a rule of the lines is written or is ahead; each takes eight words or more, so the index has room. Assumes nothing.
-use mathlib.Core.Logic.{⊎_elim}
 use native.Mathlib.Omega.{arith}
-use borrow.Author.Rules.{rules}
-use lib.ListN.{length}
-use Rattle.stable.proofs.Listing.{Listing, start, here, room, put, pass, end}
+use Rattle.stable.proofs.Listing.{here, room, put, pass, end}
 use Rattle.stable.proofs.list_rules.Goals as goal
 use Rattle.stable.proofs.list_rules.Goals.{then-word_at-eq-RULE, else-word_at-eq-RULE}
 
@@ -20,10 +17,11 @@ pub after_at-p-requires : goal.after_at-p-requires
 after_at-p-requires c = omega (arith, here c.loop-left.invariant c.loop-left-test.true)
 
 pub loop-left-preserved : goal.loop-left-preserved
-loop-left-preserved c = 
+loop-left-preserved c =
     elim c.if-word_at-eq-RULE.branch [
-      then-word_at-eq-RULE w ↦ put c.loop-left.invariant c.loop-left-test.true c.word_at.ensures.0 w.if-word_at-eq-RULE.true w.index-is w.m-is c.after_at-p.ensures
-    | else-word_at-eq-RULE w ↦ pass c.loop-left.invariant c.loop-left-test.true c.word_at.ensures.0 w.if-word_at-eq-RULE.false w.index-is w.m-is c.after_at-p.ensures ]
+      | then-word_at-eq-RULE w ↦ put c.loop-left.invariant c.loop-left-test.true c.word_at.ensures.0 w.if-word_at-eq-RULE.true w.index-is w.m-is c.after_at-p.ensures
+      | else-word_at-eq-RULE w ↦ pass c.loop-left.invariant c.loop-left-test.true c.word_at.ensures.0 w.if-word_at-eq-RULE.false w.index-is w.m-is c.after_at-p.ensures
+    ]
 
 pub returns : goal.returns
 returns c = end c.loop-left.invariant c.loop-left-test.false

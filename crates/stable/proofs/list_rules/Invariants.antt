@@ -1,9 +1,6 @@
 -- `list_rules`: a rule of the lines is written or is ahead; each takes eight words or more, so the index has room. Assumes nothing.
-use mathlib.Core.Logic.{⊎_elim}
-use native.Mathlib.Omega.{arith}
-use borrow.Author.Rules.{rules}
 use lib.ListN.{length}
-use Rattle.stable.proofs.Listing.{Listing, start, here, room, put, pass, end}
+use Rattle.stable.proofs.Listing.{Listing}
 use Rattle.stable.proofs.list_rules.Given as goal
 
 abbrev pub invariant-loop-left : goal.invariant-loop-left

@@ -1,6 +1,6 @@
 -- `mark`: a mark more or the same bitmap. Assumes nothing.
 use borrow.Author.Rules.{rules}
-use Rattle.stable.proofs.Marks.{mark_old, mark_new}
+use Rattle.stable.proofs.Marks.{mark_new}
 use Rattle.stable.proofs.mark.Goals as goal
 
 pub returns : goal.returns

@@ -1,8 +1,6 @@
 -- `round`: each visit adds only what every model has, and nothing where nothing is new. Assumes nothing.
-use Prim.Native.Nat.{◌-◌}
 use native.Mathlib.Omega.{arith}
-use Rattle.basics.specs.inner.Bitmaps.{is_marked}
-use Rattle.stable.proofs.Rounds.{Turn, start, rule_here, few, visit, end}
+use Rattle.stable.proofs.Rounds.{rule_here, few, visit}
 use Rattle.stable.proofs.round.Goals as goal
 
 pub fire-k-requires-clause-rule_on : goal.fire-k-requires-clause-rule_on

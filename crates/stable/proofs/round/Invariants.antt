@@ -1,8 +1,7 @@
 -- `round`: each visit adds only what every model has, and nothing where nothing is new. Assumes nothing.
 use Prim.Native.Nat.{◌-◌}
-use native.Mathlib.Omega.{arith}
 use Rattle.basics.specs.inner.Bitmaps.{is_marked}
-use Rattle.stable.proofs.Rounds.{Turn, start, rule_here, few, visit, end}
+use Rattle.stable.proofs.Rounds.{Turn}
 use Rattle.stable.proofs.round.Given as goal
 
 abbrev pub invariant-loop-i : goal.invariant-loop-i

@@ -1,11 +1,8 @@
 -- `seek`: every place passed is not in x or was found. Assumes nothing.
 use Prim.Native.Nat.{◌-◌, ◌≤◌}
-use mathlib.Core.Logic.{⊎_elim}
-use native.Mathlib.Omega.{arith}
-use borrow.Author.Rules.{rules}
 use Rattle.basics.specs.inner.Bitmaps.{NoneFrom}
 use Rattle.faults.specs.inner.Places.{atom_places}
-use Rattle.stable.proofs.Seeking.{Seen, start, not_in, found_in, here, nowhere}
+use Rattle.stable.proofs.Seeking.{Seen}
 use Rattle.stable.proofs.seek.Given as goal
 
 abbrev pub invariant-loop-a : goal.invariant-loop-a

@@ -1,9 +1,4 @@
 -- `unfounded_by`: the models by the index are the models by the lines, so what was sought is the answer. Assumes nothing.
-use Prim.Native.Nat.{ℕ}
-use mathlib.Core.Path.{◌∙◌}
-use borrow.Author.Rules.{rules}
-use lib.ListN.{length-replicate}
-use Rattle.faults.specs.inner.Places.{atom_places}
 use Rattle.stable.specs.inner.Values.{as_unfounded}
 use Rattle.aspif.proofs.Candidates.{blank_zeros}
 use Rattle.stable.proofs.Joining.{answer}

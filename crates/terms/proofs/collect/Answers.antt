@@ -2,8 +2,7 @@
 use mathlib.Core.Path.{◌∙◌}
 use Rattle.aspif.proofs.Walking.{ahead_starts, ahead-next, after-inside}
 use Rattle.terms.proofs.Turns.{room_left}
-use Rattle.terms.proofs.Walks.{Underway, Kept, kept-start, kept-room, at_first, at_refusal, at_next, at_last, at_end}
-use borrow.Author.Rules.{rules}
+use Rattle.terms.proofs.Walks.{kept-start, kept-room, at_first, at_refusal, at_next, at_last, at_end}
 use Rattle.terms.proofs.collect.Goals as goal
 
 pub loop-left-init : goal.loop-left-init

@@ -1,9 +1,5 @@
 -- `collect`: what is gathered, and what the lines to come give, is the answer; each turn takes one line.
-use mathlib.Core.Path.{◌∙◌}
-use Rattle.aspif.proofs.Walking.{ahead_starts, ahead-next, after-inside}
-use Rattle.terms.proofs.Turns.{room_left}
-use Rattle.terms.proofs.Walks.{Underway, Kept, kept-start, kept-room, at_first, at_refusal, at_next, at_last, at_end}
-use borrow.Author.Rules.{rules}
+use Rattle.terms.proofs.Walks.{Underway, Kept}
 use Rattle.terms.proofs.collect.Given as goal
 
 abbrev pub invariant-loop-left : goal.invariant-loop-left

@@ -3,8 +3,7 @@ use native.Mathlib.Omega.{arith}
 use mir.Syntax.{w32}
 use mir.Val.{to_z, of_z}
 use Rattle.terms.proofs.Signs.{back}
-use Rattle.terms.proofs.Turns.{stored-none, stored_refused, stored_one}
-use borrow.Author.Rules.{rules}
+use Rattle.terms.proofs.Turns.{stored_refused, stored_one}
 use Rattle.terms.proofs.store.Goals as goal
 
 pub returns-in-States : goal.returns-in-States

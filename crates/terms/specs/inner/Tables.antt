@@ -1,6 +1,6 @@
 -- Inner: what the code's tables stand for. A table has a place for each number: 0 where no line defined it yet, or q + 1 where the
 -- statement at q of the tape, its kind there, did. Assumes nothing.
-use Rattle.std.specs.Prelude.{ℕ, zero, suc, ◌+◌, ◌<◌, ◌≡◌, List, [], ◌∷◌, ◌++◌, Bool, true, false, ◌&&◌, not, length, get_or, eqb, ℤ, pos, negsuc}
+use Rattle.std.specs.Prelude.{ℕ, zero, suc, ◌<◌, ◌≡◌, List, [], ◌∷◌, ◌++◌, Bool, true, false, ◌&&◌, not, length, get_or, eqb, ℤ, pos, negsuc}
 use Rattle.std.proofs.Math.Option.{Option, some, none}
 use Rattle.basics.specs.Bools.{pick}
 use Rattle.faults.specs.Limits.{largest_number}

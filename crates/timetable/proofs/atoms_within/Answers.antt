@@ -1,8 +1,6 @@
 -- `timetable::atoms_within` meets its contract: whether the atoms that are left are within the bounds is the whole answer.
 use borrow.Author.Rules.{rules}
-use Prim.Native.Nat.{◌+◌, ◌*◌, ◌≤◌}
-use mathlib.Core.Path.{◌≡◌, refl, ◌∙◌}
-use lib.ListN.{length}
+use mathlib.Core.Path.{◌∙◌}
 use Rattle.timetable.proofs.Reading.{atoms_left, atoms_end, atoms-low, atoms_high, atoms_on}
 use Rattle.timetable.proofs.atoms_within.Goals as goal
 

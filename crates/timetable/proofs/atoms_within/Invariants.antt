@@ -1,9 +1,8 @@
 -- `timetable::atoms_within` meets its contract: whether the atoms that are left are within the bounds is the whole answer.
-use borrow.Author.Rules.{rules}
 use Prim.Native.Nat.{◌+◌, ◌*◌, ◌≤◌}
-use mathlib.Core.Path.{◌≡◌, refl, ◌∙◌}
+use mathlib.Core.Path.{◌≡◌}
 use lib.ListN.{length}
-use Rattle.timetable.proofs.Reading.{atoms_left, atoms_end, atoms-low, atoms_high, atoms_on}
+use Rattle.timetable.proofs.Reading.{atoms_left}
 use Rattle.timetable.proofs.atoms_within.Given as goal
 
 abbrev pub invariant-loop-left : goal.invariant-loop-left

@@ -1,11 +1,8 @@
 -- `timetable::count_marked` meets its contract: what is counted and what is still marked from i on are together what was to be counted.
-use borrow.Author.Rules.{rules}
 use Prim.Native.Nat.{◌+◌, ◌-◌, ◌≤◌}
-use mathlib.Core.Path.{◌≡◌, ap}
-use native.Mathlib.Omega.{arith}
+use mathlib.Core.Path.{◌≡◌}
 use lib.ListN.{length}
 use Rattle.basics.specs.inner.Bitmaps.{marked_from}
-use Rattle.timetable.proofs.Marks.{few-marked, marked-none, marked_pass, marked-take}
 use Rattle.timetable.proofs.count_marked.Given as goal
 
 abbrev pub invariant-loop-i : goal.invariant-loop-i

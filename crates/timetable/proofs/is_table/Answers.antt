@@ -1,5 +1,4 @@
 -- `timetable::is_table` meets its contract: each test of the code, in its order, is one of the definition.
-use borrow.Author.Rules.{rules}
 use mathlib.Core.Path.{◌∙◌}
 use Rattle.timetable.proofs.Reading.{records_left, atoms_left, too_short, wrong_length, wrong_first, wrong_second, right_shape}
 use Rattle.timetable.proofs.is_table.Goals as goal

@@ -1,5 +1,4 @@
 -- `timetable::put_record` meets its contract: the time is stored where the name ends.
-use borrow.Author.Rules.{rules}
 use Rattle.timetable.proofs.Writing.{two-stored}
 use Rattle.timetable.proofs.put_record.Goals as goal
 

@@ -1,7 +1,4 @@
 -- `timetable::put_word` meets its contract: the four stores, one by one, are the word stored.
-use borrow.Author.Rules.{rules}
-use native.Mathlib.Omega.{arith}
-use lib.ListN.{length-set}
 use Rattle.timetable.proofs.Words.{word-stored}
 use Rattle.timetable.proofs.put_word.Goals as goal
 

@@ -1,8 +1,6 @@
 -- `timetable::records_within` meets its contract: whether the records that are left are within the bounds is the whole answer.
 use borrow.Author.Rules.{rules}
-use Prim.Native.Nat.{◌+◌, ◌*◌, ◌≤◌}
-use mathlib.Core.Path.{◌≡◌, refl, ◌∙◌}
-use lib.ListN.{length}
+use mathlib.Core.Path.{◌∙◌}
 use Rattle.timetable.proofs.Reading.{records_left, records_end, records-low, records_high, records-late, records_on}
 use Rattle.timetable.proofs.records_within.Goals as goal
 

@@ -1,9 +1,8 @@
 -- `timetable::records_within` meets its contract: whether the records that are left are within the bounds is the whole answer.
-use borrow.Author.Rules.{rules}
 use Prim.Native.Nat.{◌+◌, ◌*◌, ◌≤◌}
-use mathlib.Core.Path.{◌≡◌, refl, ◌∙◌}
+use mathlib.Core.Path.{◌≡◌}
 use lib.ListN.{length}
-use Rattle.timetable.proofs.Reading.{records_left, records_end, records-low, records_high, records-late, records_on}
+use Rattle.timetable.proofs.Reading.{records_left}
 use Rattle.timetable.proofs.records_within.Given as goal
 
 abbrev pub invariant-loop-left : goal.invariant-loop-left

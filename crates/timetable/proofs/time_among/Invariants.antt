@@ -1,11 +1,9 @@
 -- `timetable::time_among` meets its contract: the time among the records that are left is the whole answer.
-use borrow.Author.Rules.{rules}
 use Prim.Native.Nat.{◌+◌, ◌*◌, ◌≤◌}
-use mathlib.Core.Path.{◌≡◌, refl, ◌∙◌}
+use mathlib.Core.Path.{◌≡◌}
 use lib.ListN.{length}
 use Rattle.timetable.specs.Table.{records_at}
 use Rattle.timetable.specs.Times.{time_among}
-use Rattle.timetable.proofs.Reading.{time-none, time_here, time_on}
 use Rattle.timetable.proofs.time_among.Given as goal
 
 abbrev pub invariant-loop-left : goal.invariant-loop-left

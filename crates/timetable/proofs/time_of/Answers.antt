@@ -1,5 +1,4 @@
 -- `timetable::time_of` meets its contract: a table is long enough for its header and its records, and their search is the answer.
-use borrow.Author.Rules.{rules}
 use mathlib.Core.Path.{sym, ◌∙◌}
 use native.Mathlib.Omega.{arith}
 use Rattle.timetable.specs.Times.{time_of}

@@ -1,5 +1,4 @@
 -- `timetable::word_at` meets its contract: each of the four bytes is read and widened, and their sum fits.
-use borrow.Author.Rules.{rules}
 use Rattle.timetable.specs.Word.{word_at}
 use Rattle.timetable.proofs.word_at.Goals as goal
 

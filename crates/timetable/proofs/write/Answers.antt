@@ -1,6 +1,5 @@
 -- `timetable::write` meets its contract: records and atoms are each stored where the part before them ends, and the header last.
 -- The longest table fits the room, so the parts begin and end within it.
-use borrow.Author.Rules.{rules}
 use Prim.Native.Nat.{◌+◌, ◌-◌}
 use mathlib.Core.Path.{◌≡◌, ap, ◌∙◌}
 use mathlib.Core.List.{◌++◌}

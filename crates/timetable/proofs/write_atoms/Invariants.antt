@@ -1,13 +1,10 @@
 -- `timetable::write_atoms` meets its contract: what is written, with the atoms still to come, is the room that is promised.
 -- Four bytes are written for each atom that is behind.
-use borrow.Author.Rules.{rules}
 use Prim.Native.Nat.{◌+◌, ◌-◌, ◌*◌}
-use mathlib.Core.Path.{◌≡◌, refl, ap, ◌∙◌}
-use native.Mathlib.Omega.{arith}
+use mathlib.Core.Path.{◌≡◌}
 use lib.ListN.{length}
 use Rattle.basics.specs.inner.Bitmaps.{marked_from}
-use Rattle.timetable.proofs.Marks.{few-marked, marked-none, marked_pass, marked-take}
-use Rattle.timetable.proofs.Writing.{with_atoms, atoms-none, atoms_pass, atoms-take}
+use Rattle.timetable.proofs.Writing.{with_atoms}
 use Rattle.timetable.proofs.write_atoms.Given as goal
 
 abbrev pub invariant-loop-i : goal.invariant-loop-i

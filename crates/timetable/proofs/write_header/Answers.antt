@@ -1,5 +1,4 @@
 -- `timetable::write_header` meets its contract: four words, each stored where the one before it ends.
-use borrow.Author.Rules.{rules}
 use Rattle.timetable.proofs.Writing.{header_stored}
 use Rattle.timetable.proofs.write_header.Goals as goal
 

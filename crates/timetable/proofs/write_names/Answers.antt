@@ -1,10 +1,9 @@
 -- `timetable::write_names` meets its contract: what is written, with the records still to come, is the room that is promised.
 -- Eight bytes are written for each name that is behind.
 use borrow.Author.Rules.{rules}
-use Prim.Native.Nat.{◌+◌, ◌-◌, ◌*◌}
-use mathlib.Core.Path.{◌≡◌, refl, ap, ◌∙◌}
+use Prim.Native.Nat.{◌*◌}
+use mathlib.Core.Path.{◌≡◌, ap, ◌∙◌}
 use native.Mathlib.Omega.{arith}
-use borrow.Author.Tests.{eq-eqb}
 use lib.ListN.{length}
 use Rattle.basics.specs.inner.Bitmaps.{marked_from}
 use Rattle.timetable.proofs.Marks.{few-marked, marked-none, marked_pass, marked-take}

@@ -1,14 +1,10 @@
 -- `timetable::write_names` meets its contract: what is written, with the records still to come, is the room that is promised.
 -- Eight bytes are written for each name that is behind.
-use borrow.Author.Rules.{rules}
 use Prim.Native.Nat.{◌+◌, ◌-◌, ◌*◌}
-use mathlib.Core.Path.{◌≡◌, refl, ap, ◌∙◌}
-use native.Mathlib.Omega.{arith}
-use borrow.Author.Tests.{eq-eqb}
+use mathlib.Core.Path.{◌≡◌}
 use lib.ListN.{length}
 use Rattle.basics.specs.inner.Bitmaps.{marked_from}
-use Rattle.timetable.proofs.Marks.{few-marked, marked-none, marked_pass, marked-take}
-use Rattle.timetable.proofs.Writing.{with_records, records-none, records_pass, records-take}
+use Rattle.timetable.proofs.Writing.{with_records}
 use Rattle.timetable.proofs.write_names.Given as goal
 
 abbrev pub invariant-loop-i : goal.invariant-loop-i

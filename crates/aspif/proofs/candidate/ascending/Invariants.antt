@@ -1,14 +1,9 @@
 -- `aspif::candidate::ascending` meets its contract. The invariant: the atoms marked so far, with those that are read from `d` on, are the whole answer.
 -- The measure is what is left above `low`. Assumes nothing.
 use Prim.Native.Nat.{◌-◌}
-use mathlib.Core.Path.{sym, ap, ◌∙◌}
-use native.Mathlib.Omega.{arith}
-use lib.ListN.{length-set}
-use borrow.Author.Rules.{rules}
 use Rattle.faults.specs.Limits.{last_atom}
-use Rattle.fields.specs.inner.Values.{as_atom, as_passed}
 use Rattle.aspif.specs.Candidate.{ascending}
-use Rattle.aspif.proofs.Candidates.{above_bounds, Marking, marking_start, marking_more, marking_out, marking_stop, marking_open, marking_last, marking_above}
+use Rattle.aspif.proofs.Candidates.{Marking}
 use Rattle.aspif.proofs.candidate.ascending.Given as goal
 
 abbrev pub invariant-loop-low : goal.invariant-loop-low

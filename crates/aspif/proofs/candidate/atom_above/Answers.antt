@@ -1,7 +1,6 @@
 -- `aspif::candidate::atom_above` meets its contract: a natural is refused where it begins, and one that is not above `low` too. Assumes nothing.
 use mathlib.Core.Path.{sym, ap, ◌∙◌}
 use native.Mathlib.Omega.{arith}
-use borrow.Author.Rules.{rules}
 use Rattle.fields.specs.inner.Values.{as_word}
 use Rattle.aspif.proofs.Candidates.{above-refused, above_low, above_good}
 use Rattle.aspif.proofs.candidate.atom_above.Goals as goal

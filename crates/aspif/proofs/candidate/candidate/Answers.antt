@@ -1,8 +1,5 @@
 -- `aspif::candidate::candidate` meets its contract: a line end alone leaves the bitmap blank, anything else is a list of atoms. Assumes nothing.
-use mathlib.Core.Path.{refl, sym, ap, ◌∙◌}
-use mathlib.Core.Logic.{inl}
-use native.Mathlib.Omega.{arith}
-use borrow.Author.Rules.{rules}
+use mathlib.Core.Path.{sym, ap, ◌∙◌}
 use Rattle.fields.specs.inner.Values.{as_passed, as_end}
 use Rattle.basics.proofs.Bitmaps.{marks-none}
 use Rattle.aspif.proofs.Candidates.{empty-refused, empty_good, candidate_other}

@@ -1,5 +1,4 @@
 -- `aspif::candidate::ending` meets its contract. Assumes nothing.
-use borrow.Author.Rules.{rules}
 use Rattle.aspif.specs.Candidate.{ending}
 use Rattle.aspif.proofs.candidate.ending.Goals as goal
 

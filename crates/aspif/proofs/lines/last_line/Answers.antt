@@ -1,5 +1,4 @@
 -- `aspif::lines::last_line` meets its contract. Assumes nothing.
-use borrow.Author.Rules.{rules}
 use Rattle.aspif.specs.Grammar.{last_line}
 use Rattle.aspif.proofs.lines.last_line.Goals as goal
 

@@ -1,9 +1,8 @@
 -- `aspif::lines::lines` meets its contract: with each turn what is left to read gives the whole answer, and the tape has the words
 -- of the lines so far (Turns). Assumes nothing.
-use Prim.Native.Nat.{◌≤◌, ◌<◌}
-use mathlib.Core.Path.{◌≡◌, refl, sym, ◌∙◌}
+use Prim.Native.Nat.{◌≤◌}
+use mathlib.Core.Path.{sym, ◌∙◌}
 use native.Mathlib.Omega.{arith}
-use borrow.Author.Rules.{rules}
 use lib.Dec.{lit<}
 use lib.ListN.{length}
 use Rattle.fields.specs.Fields.{byte_at}
@@ -13,7 +12,7 @@ use Rattle.fields.proofs.Taping.{wrote, stopped}
 use Rattle.aspif.specs.inner.Words.{words_of}
 use Rattle.aspif.specs.inner.Values.{taped}
 use Rattle.aspif.proofs.Kept.{Bytes}
-use Rattle.aspif.proofs.Turns.{turn_none, turn_stop, last_stop, last_goes, line_stop, end_stop, line-goes, line-words, Reached, reach_start, reach_fault, reach_more, end_taped, end_lines, end_walks}
+use Rattle.aspif.proofs.Turns.{turn_none, turn_stop, last_stop, last_goes, line_stop, end_stop, line-goes, line-words, reach_fault, reach_more, end_taped, end_lines, end_walks}
 use Rattle.aspif.proofs.lines.lines.Goals as goal
 
 pub returns-in_default-clause-tape_after : goal.returns-in_default-clause-tape_after

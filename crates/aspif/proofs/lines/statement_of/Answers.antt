@@ -1,5 +1,4 @@
 -- `aspif::lines::statement_of` meets its contract. Assumes nothing.
-use borrow.Author.Rules.{rules}
 use borrow.Author.Tests.{eq-eqb, ne_eqb}
 use Rattle.fields.specs.inner.Tape.{on_tape}
 use Rattle.aspif.specs.Grammar.{statement_of}

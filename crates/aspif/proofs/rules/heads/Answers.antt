@@ -1,5 +1,4 @@
 -- `aspif::rules::heads` meets its contract. Assumes nothing.
-use borrow.Author.Rules.{rules}
 use borrow.Author.Tests.{eq-eqb, ne_eqb}
 use Rattle.aspif.specs.Grammar.{heads}
 use Rattle.aspif.proofs.rules.heads.Goals as goal

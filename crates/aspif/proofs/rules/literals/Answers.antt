@@ -1,5 +1,4 @@
 -- `aspif::rules::literals` meets its contract. Assumes nothing.
-use borrow.Author.Rules.{rules}
 use Rattle.aspif.specs.Grammar.{literals}
 use Rattle.aspif.proofs.rules.literals.Goals as goal
 

@@ -1,8 +1,6 @@
 -- `aspif::rules::normal_body` meets its contract. Assumes nothing.
-use borrow.Author.Rules.{rules}
 use mathlib.Core.Path.{◌∙◌}
 use mathlib.Core.List.{[], ◌∷◌}
-use native.Mathlib.Omega.{arith}
 use Rattle.fields.proofs.Taping.{on_start, on_more, on_last}
 use Rattle.aspif.specs.Grammar.{normal_body}
 use Rattle.aspif.proofs.Coding.{literals_forth}

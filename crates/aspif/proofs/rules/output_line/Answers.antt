@@ -1,5 +1,4 @@
 -- `aspif::rules::output_line` meets its contract: the words so far grow with each field. Assumes nothing.
-use borrow.Author.Rules.{rules}
 use mathlib.Core.Path.{◌∙◌}
 use mathlib.Core.List.{[], ◌∷◌}
 use native.Mathlib.Omega.{arith}
@@ -36,5 +35,5 @@ unfolding output_line string
 returns-clause-tape_after c = let natural-then = c.natural_then-a in
     let put = c.put-o1 in
     let wt = wrote listed _ _ _ (rw c.in-Got-t.is at c.listed-t.ensures.tape_after) in rw (← natural-then.ensures, c.in-Got.is, wt.is) (c.literals.ensures.tape_after ∙ on_last _ _ _ _ _ _ _
-          (on_more _ _ _ (listed wt.value) (on_more _ _ _ (_ ∷ []) (on_start _ _) put.ensures.0 put.ensures.1) wt.tape wt.next)
-          (λ ls. rw literals_forth))
+    (on_more _ _ _ (listed wt.value) (on_more _ _ _ (_ ∷ []) (on_start _ _) put.ensures.0 put.ensures.1) wt.tape wt.next)
+    (λ ls. rw literals_forth))

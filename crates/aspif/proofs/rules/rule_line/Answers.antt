@@ -1,5 +1,4 @@
 -- `aspif::rules::rule_line` meets its contract: the words so far grow with each field. Assumes nothing.
-use borrow.Author.Rules.{rules}
 use mathlib.Core.Path.{sym, ◌∙◌}
 use mathlib.Core.List.{[], ◌∷◌}
 use native.Mathlib.Omega.{arith}
@@ -37,5 +36,5 @@ returns-clause-tape_after c = let next-natural = c.next_natural-a in
     let wh = wrote listed _ _ _ (rw c.in-Got-h.is at c.heads-h.ensures.tape_after) in
     let ea = rw c.in-Got.is at next-natural.ensures in
     let hw = head_forth _ wh.value (reads-ends (lit< tt) (next_natural-reads _ _ by_grammar _ _) _ _ ea).0 (heads-few _ _ _ _ _ (sym wh.is)) in rw (← next-natural.ensures, c.in-Got.is, wh.is) (c.body.ensures.tape_after ∙ on_last _ _ _ _ _ _ _
-          (on_more _ _ _ (listed wh.value) (on_more _ _ _ (_ ∷ _ ∷ []) (on_start _ _) begin.ensures.0 begin.ensures.1) wh.tape wh.next)
-          (λ b. rw hw))
+    (on_more _ _ _ (listed wh.value) (on_more _ _ _ (_ ∷ _ ∷ []) (on_start _ _) begin.ensures.0 begin.ensures.1) wh.tape wh.next)
+    (λ b. rw hw))

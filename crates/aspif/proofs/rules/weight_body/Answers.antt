@@ -1,5 +1,4 @@
 -- `aspif::rules::weight_body` meets its contract. Assumes nothing.
-use borrow.Author.Rules.{rules}
 use mathlib.Core.Path.{◌∙◌}
 use mathlib.Core.List.{[], ◌∷◌}
 use native.Mathlib.Omega.{arith}
@@ -28,4 +27,4 @@ pub returns-clause-tape_after : goal.returns-clause-tape_after
 unfolding weight_body
 returns-clause-tape_after c = let next-natural = c.next_natural-a in
     let begin = c.begin-o1 in rw (← next-natural.ensures, c.in-Got.is) (c.counted.ensures.tape_after ∙ on_last _ _ _ _ _ _ _
-          (on_more _ _ _ (_ ∷ _ ∷ []) (on_start _ _) begin.ensures.0 begin.ensures.1) (λ ps. rw premises_forth))
+    (on_more _ _ _ (_ ∷ _ ∷ []) (on_start _ _) begin.ensures.0 begin.ensures.1) (λ ps. rw premises_forth))

@@ -1,5 +1,4 @@
 -- `aspif::theory::compound_line` meets its contract: the words so far grow with each field. Assumes nothing.
-use borrow.Author.Rules.{rules}
 use mathlib.Core.Path.{◌∙◌}
 use mathlib.Core.List.{[], ◌∷◌}
 use native.Mathlib.Omega.{arith}
@@ -54,5 +53,5 @@ returns-clause-tape_after c = let next-term = c.next_term-a in
     let begin-term = c.begin_term-o1 in
     let put = c.put-o2 in
     let eb = rw c.in-Got-b.is at next-integer.ensures in rw (← next-term.ensures, c.in-Got.is, ← next-integer.ensures, c.in-Got-b.is) (c.counted.ensures.tape_after ∙ on_last _ _ _ _ _ _ _
-          (on_more _ _ _ (_ ∷ []) (on_more _ _ _ (_ ∷ _ ∷ []) (on_start _ _) begin-term.ensures.0 begin-term.ensures.1) put.ensures.0 put.ensures.1)
-          (λ us. rw (integer_forth _ _ _ _ _ _ eb)))
+    (on_more _ _ _ (_ ∷ []) (on_more _ _ _ (_ ∷ _ ∷ []) (on_start _ _) begin-term.ensures.0 begin-term.ensures.1) put.ensures.0 put.ensures.1)
+    (λ us. rw (integer_forth _ _ _ _ _ _ eb)))

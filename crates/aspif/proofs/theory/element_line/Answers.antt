@@ -1,5 +1,4 @@
 -- `aspif::theory::element_line` meets its contract: the words so far grow with each field. Assumes nothing.
-use borrow.Author.Rules.{rules}
 use mathlib.Core.Path.{◌∙◌}
 use mathlib.Core.List.{[], ◌∷◌}
 use native.Mathlib.Omega.{arith}
@@ -35,5 +34,5 @@ unfolding element_line
 returns-clause-tape_after c = let next-element = c.next_element-a in
     let begin-element = c.begin_element-o1 in
     let wt = wrote listed _ _ _ (rw c.in-Got-t.is at c.counted-t.ensures.tape_after) in rw (← next-element.ensures, c.in-Got.is, wt.is) (c.literals.ensures.tape_after ∙ on_last _ _ _ _ _ _ _
-          (on_more _ _ _ (listed wt.value) (on_more _ _ _ (_ ∷ _ ∷ []) (on_start _ _) begin-element.ensures.0 begin-element.ensures.1) wt.tape wt.next)
-          (λ ls. rw literals_forth))
+    (on_more _ _ _ (listed wt.value) (on_more _ _ _ (_ ∷ _ ∷ []) (on_start _ _) begin-element.ensures.0 begin-element.ensures.1) wt.tape wt.next)
+    (λ ls. rw literals_forth))

@@ -1,5 +1,4 @@
 -- `aspif::theory::front` meets its contract: its elements stand behind its first words. Assumes nothing.
-use borrow.Author.Rules.{rules}
 use mathlib.Core.Path.{refl, ◌∙◌}
 use mathlib.Core.List.{[], ◌∷◌}
 use native.Mathlib.Omega.{arith}
@@ -44,5 +43,5 @@ returns-clause-tape_after c = let next-atom = c.next_atom-a in
     let next-term = c.next_term-b in
     let begin-atom = c.begin_atom-o1 in
     let put-term = c.put_term-o2 in rw (← next-atom.ensures, c.in-Got.is, ← next-term.ensures, c.in-Got-b.is) (c.counted.ensures.tape_after ∙ on_last _ _ _ _ _ _ _
-          (on_more _ _ _ (_ ∷ []) (on_more _ _ _ (_ ∷ _ ∷ []) (on_start _ _) begin-atom.ensures.0 begin-atom.ensures.1) put-term.ensures.0 put-term.ensures.1)
-          (λ vs. refl))
+    (on_more _ _ _ (_ ∷ []) (on_more _ _ _ (_ ∷ _ ∷ []) (on_start _ _) begin-atom.ensures.0 begin-atom.ensures.1) put-term.ensures.0 put-term.ensures.1)
+    (λ vs. refl))

@@ -1,5 +1,4 @@
 -- `aspif::theory::guarded_line` meets its contract: the words so far grow with each field. Assumes nothing.
-use borrow.Author.Rules.{rules}
 use mathlib.Core.Path.{◌∙◌}
 use mathlib.Core.List.{[], ◌∷◌, append_assoc}
 use native.Mathlib.Omega.{arith}
@@ -59,8 +58,8 @@ returns-clause-tape_after c = let next-term = c.next_term-a in
     let fb = reads-ends (lit< tt) (next_term-reads _ _) _ _ eb in
     let nput = put-term.ensures.1 in
     let nput2 = put-term2.ensures.1 in rw (wt.is, ← next-term.ensures, c.in-Got-a.is, ← next-term2.ensures, c.in-Got-b.is) (on_found _ _ _ _ _ _
-          (on_more _ _ _ (_ ∷ []) (on_more _ _ _ (_ ∷ []) (on_more _ _ _ (front_words guarded_kind wt.value) (on_start _ _) wt.tape wt.next) put-term.ensures.0 put-term.ensures.1) put-term2.ensures.0 put-term2.ensures.1)
-          (rw append_assoc))
+    (on_more _ _ _ (_ ∷ []) (on_more _ _ _ (_ ∷ []) (on_more _ _ _ (front_words guarded_kind wt.value) (on_start _ _) wt.tape wt.next) put-term.ensures.0 put-term.ensures.1) put-term2.ensures.0 put-term2.ensures.1)
+    (rw append_assoc))
 
 pub returns-clause-roomy : goal.returns-clause-roomy
 unfolding guarded_line

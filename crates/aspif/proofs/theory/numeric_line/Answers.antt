@@ -1,6 +1,4 @@
 -- `aspif::theory::numeric_line` meets its contract: two fields, then their words. Assumes nothing.
-use borrow.Author.Rules.{rules}
-use mathlib.Core.Path.{◌∙◌}
 use mathlib.Core.List.{[], ◌∷◌}
 use native.Mathlib.Omega.{arith}
 use lib.Dec.{lit<}
@@ -44,8 +42,8 @@ returns-clause-tape_after c = let next-term = c.next_term-a in
     let fb = reads-ends (lit< tt) (next_integer-reads _ _ _ _) _ _ eb in
     let nbeginwith = begin-term.ensures.1 in
     let nput = put.ensures.1 in rw (← next-term.ensures, c.in-Got.is, ← next-integer.ensures, c.in-Got-b.is) (on_found _ _ _ _ _ _
-          (on_more _ _ _ (_ ∷ []) (on_more _ _ _ (_ ∷ _ ∷ []) (on_start _ _) begin-term.ensures.0 begin-term.ensures.1) put.ensures.0 put.ensures.1)
-          (rw (integer_forth _ _ _ _ _ _ eb)))
+    (on_more _ _ _ (_ ∷ []) (on_more _ _ _ (_ ∷ _ ∷ []) (on_start _ _) begin-term.ensures.0 begin-term.ensures.1) put.ensures.0 put.ensures.1)
+    (rw (integer_forth _ _ _ _ _ _ eb)))
 
 pub returns-clause-roomy : goal.returns-clause-roomy
 unfolding numeric_line

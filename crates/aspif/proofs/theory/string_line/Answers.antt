@@ -1,5 +1,4 @@
 -- `aspif::theory::string_line` meets its contract: the words so far grow with each field. Assumes nothing.
-use borrow.Author.Rules.{rules}
 use mathlib.Core.Path.{refl, ◌∙◌}
 use mathlib.Core.List.{[], ◌∷◌}
 use native.Mathlib.Omega.{arith}
@@ -37,5 +36,5 @@ unfolding string_line string
 returns-clause-tape_after c = let next-term = c.next_term-a in
     let natural-then = c.natural_then-b in
     let begin-term = c.begin_term-o1 in rw (← next-term.ensures, c.in-Got.is, ← natural-then.ensures, c.in-Got-b.is) (c.listed.ensures.tape_after ∙ on_last _ _ _ _ _ _ _
-          (on_more _ _ _ (_ ∷ _ ∷ []) (on_start _ _) begin-term.ensures.0 begin-term.ensures.1)
-          (λ bs. refl))
+    (on_more _ _ _ (_ ∷ _ ∷ []) (on_start _ _) begin-term.ensures.0 begin-term.ensures.1)
+    (λ bs. refl))

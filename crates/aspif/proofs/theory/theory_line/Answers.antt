@@ -2,7 +2,6 @@
 use Prim.Native.Nat.{ℕ}
 use mathlib.Core.Path.{◌≡◌, refl, ◌∙◌}
 use mathlib.Core.List.{List}
-use borrow.Author.Rules.{rules}
 use Rattle.fields.specs.Reading.{Reading, found, fault, and_then}
 use Rattle.fields.specs.inner.Tape.{on_tape}
 use Rattle.aspif.specs.Statements.{unguarded, states, theory}

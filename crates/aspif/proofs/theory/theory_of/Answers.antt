@@ -1,5 +1,4 @@
 -- `aspif::theory::theory_of` meets its contract. Assumes nothing.
-use borrow.Author.Rules.{rules}
 use borrow.Author.Tests.{eq-eqb, ne_eqb}
 use Rattle.fields.specs.inner.Tape.{on_tape}
 use Rattle.aspif.specs.Grammar.{theory_of}

@@ -4,7 +4,6 @@ use mathlib.Core.Path.{refl}
 use Rattle.aspif.specs.inner.Words.{word}
 use Rattle.aspif.proofs.Walking.{word_out}
 use native.Mathlib.Omega.{arith}
-use borrow.Author.Rules.{rules}
 use Rattle.aspif.proofs.walk.word_at.Goals as goal
 
 pub returns-then-tape-p : goal.returns-then-tape-p

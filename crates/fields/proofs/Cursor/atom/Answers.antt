@@ -1,5 +1,4 @@
 -- `fields::Cursor::atom` meets its contract. Assumes nothing.
-use borrow.Author.Rules.{rules}
 use Rattle.fields.specs.Fields.{atom}
 use Rattle.fields.proofs.Cursor.atom.Goals as goal
 

@@ -1,5 +1,4 @@
 -- `fields::Cursor::atom_word` meets its contract. Assumes nothing.
-use borrow.Author.Rules.{rules}
 use Rattle.fields.specs.Fields.{item}
 use Rattle.fields.proofs.Cursor.atom_word.Goals as goal
 

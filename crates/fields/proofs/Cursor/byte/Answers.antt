@@ -1,5 +1,4 @@
 -- `fields::Cursor::byte` meets its contract. Assumes nothing.
-use borrow.Author.Rules.{rules}
 use native.Mathlib.Omega.{arith}
 use mathlib.Core.Path.{sym, ◌∙◌}
 use Rattle.fields.proofs.Naturals.{byte_there, byte_other, there}

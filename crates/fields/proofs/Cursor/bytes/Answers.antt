@@ -1,10 +1,5 @@
 -- `fields::Cursor::bytes` meets its contract. Assumes nothing.
-use borrow.Author.Rules.{rules}
-use Prim.Native.Nat.{◌-◌}
-use mathlib.Core.Path.{◌≡◌, refl, ◌∙◌}
-use lib.ListN.{length, drop}
-use mathlib.Core.Bool.{true}
-use Rattle.fields.specs.Fields.{all_positive, bytes}
+use mathlib.Core.Path.{◌∙◌}
 use Rattle.fields.proofs.Words.{positive_more, word_out, word_more, word_stop}
 use Rattle.fields.proofs.Cursor.bytes.Goals as goal
 

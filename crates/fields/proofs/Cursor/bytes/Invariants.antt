@@ -1,11 +1,9 @@
 -- `fields::Cursor::bytes` meets its contract. Assumes nothing.
-use borrow.Author.Rules.{rules}
 use Prim.Native.Nat.{◌-◌}
-use mathlib.Core.Path.{◌≡◌, refl, ◌∙◌}
+use mathlib.Core.Path.{◌≡◌}
 use lib.ListN.{length, drop}
 use mathlib.Core.Bool.{true}
 use Rattle.fields.specs.Fields.{all_positive, bytes}
-use Rattle.fields.proofs.Words.{positive_more, word_out, word_more, word_stop}
 use Rattle.fields.proofs.Cursor.bytes.Given as goal
 
 abbrev pub invariant-loop-i : goal.invariant-loop-i

@@ -1,5 +1,4 @@
 -- `fields::Cursor::char_at` meets its contract. Assumes nothing.
-use borrow.Author.Rules.{rules}
 use Prim.Native.Nat.{◌<◌}
 use mathlib.Core.Path.{sym}
 use native.Mathlib.Omega.{arith}

@@ -1,5 +1,4 @@
 -- `fields::Cursor::from_one` meets its contract. Assumes nothing.
-use borrow.Author.Rules.{rules}
 use borrow.Author.Tests.{eq-eqb, ne_eqb}
 use Rattle.fields.specs.Fields.{from_one}
 use Rattle.fields.proofs.Cursor.from_one.Goals as goal

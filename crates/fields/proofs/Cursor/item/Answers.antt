@@ -1,5 +1,4 @@
 -- `fields::Cursor::item` meets its contract. Assumes nothing.
-use borrow.Author.Rules.{rules}
 use Rattle.fields.specs.Fields.{next_term, next_element, item}
 use Rattle.fields.proofs.Cursor.item.Goals as goal
 

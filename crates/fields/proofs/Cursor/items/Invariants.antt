@@ -1,15 +1,9 @@
 -- `fields::Cursor::items` meets its contract. Assumes nothing.
-use borrow.Author.Rules.{rules}
-use Prim.Native.Nat.{◌≤◌, ◌<◌}
-use mathlib.Core.Path.{◌≡◌, refl, sym, ap, ◌∙◌}
-use native.Mathlib.Omega.{arith}
-use lib.Dec.{lit<}
-use lib.ListN.{length, length-set}
+use Prim.Native.Nat.{◌≤◌}
+use mathlib.Core.Path.{◌≡◌}
+use lib.ListN.{length}
 use Rattle.fields.specs.Fields.{items}
 use Rattle.fields.specs.inner.Tape.{on_tape, bare}
-use Rattle.fields.specs.inner.Values.{as_word}
-use Rattle.fields.proofs.Readers.{item-reads, reads-ends}
-use Rattle.fields.proofs.Taping.{items-none, items_more, items_stop}
 use Rattle.fields.proofs.Cursor.items.Given as goal
 
 abbrev pub invariant-loop-left : goal.invariant-loop-left

@@ -1,5 +1,4 @@
 -- `fields::Cursor::line_end_of` meets its contract. Assumes nothing.
-use borrow.Author.Rules.{rules}
 use Rattle.fields.specs.Fields.{line_end_of}
 use Rattle.fields.proofs.Cursor.line_end_of.Goals as goal
 

@@ -1,7 +1,5 @@
 -- `fields::Cursor::listed` meets its contract. Assumes nothing.
 use mathlib.Core.Path.{◌∙◌}
-use borrow.Author.Rules.{rules}
-use lib.ListN.{length-set}
 use Rattle.fields.proofs.Taping.{counted-items}
 use Rattle.fields.proofs.Cursor.listed.Goals as goal
 

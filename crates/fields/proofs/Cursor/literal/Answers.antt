@@ -1,7 +1,6 @@
 -- `fields::Cursor::literal` meets its contract. Assumes nothing.
-use borrow.Author.Rules.{rules}
 use borrow.Author.Tests.{eq-eqb, ne_eqb}
-use Rattle.fields.specs.Fields.{integer, literal}
+use Rattle.fields.specs.Fields.{literal}
 use Rattle.fields.proofs.Cursor.literal.Goals as goal
 
 pub returns-in_default : goal.returns-in_default

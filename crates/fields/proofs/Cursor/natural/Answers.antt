@@ -1,5 +1,4 @@
 -- `fields::Cursor::natural` meets its contract. Assumes nothing.
-use borrow.Author.Rules.{rules}
 use Rattle.fields.proofs.Naturals.{natural_bad, natural_large, natural_good}
 use Rattle.fields.proofs.Cursor.natural.Goals as goal
 

@@ -1,5 +1,4 @@
 -- `fields::Cursor::natural_then` meets its contract. Assumes nothing.
-use borrow.Author.Rules.{rules}
 use Rattle.fields.specs.Fields.{natural_then}
 use Rattle.fields.proofs.Cursor.natural_then.Goals as goal
 

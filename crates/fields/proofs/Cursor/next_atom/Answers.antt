@@ -1,5 +1,4 @@
 -- `fields::Cursor::next_atom` meets its contract. Assumes nothing.
-use borrow.Author.Rules.{rules}
 use Rattle.fields.specs.Fields.{next_atom}
 use Rattle.fields.proofs.Cursor.next_atom.Goals as goal
 

@@ -1,5 +1,4 @@
 -- `fields::Cursor::next_element` meets its contract. Assumes nothing.
-use borrow.Author.Rules.{rules}
 use Rattle.fields.specs.Fields.{next_element}
 use Rattle.fields.proofs.Cursor.next_element.Goals as goal
 

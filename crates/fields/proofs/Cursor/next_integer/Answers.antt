@@ -1,5 +1,4 @@
 -- `fields::Cursor::next_integer` meets its contract. Assumes nothing.
-use borrow.Author.Rules.{rules}
 use Rattle.fields.specs.Fields.{next_integer}
 use Rattle.fields.proofs.Cursor.next_integer.Goals as goal
 

@@ -1,5 +1,4 @@
 -- `fields::Cursor::next_natural` meets its contract. Assumes nothing.
-use borrow.Author.Rules.{rules}
 use Rattle.fields.specs.Fields.{next_natural}
 use Rattle.fields.proofs.Cursor.next_natural.Goals as goal
 

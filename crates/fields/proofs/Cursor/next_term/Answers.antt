@@ -1,5 +1,4 @@
 -- `fields::Cursor::next_term` meets its contract. Assumes nothing.
-use borrow.Author.Rules.{rules}
 use Rattle.fields.specs.Fields.{next_term}
 use Rattle.fields.proofs.Cursor.next_term.Goals as goal
 

@@ -1,5 +1,4 @@
 -- `fields::Cursor::next_weight` meets its contract. Assumes nothing.
-use borrow.Author.Rules.{rules}
 use Rattle.fields.specs.Fields.{next_weight}
 use Rattle.fields.proofs.Cursor.next_weight.Goals as goal
 

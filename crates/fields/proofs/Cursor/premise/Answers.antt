@@ -1,5 +1,4 @@
 -- `fields::Cursor::premise` meets its contract. Assumes nothing.
-use borrow.Author.Rules.{rules}
 use native.Mathlib.Omega.{arith}
 use lib.Dec.{lit<}
 use Rattle.fields.specs.Fields.{premise}

@@ -2,7 +2,6 @@
 use Prim.Native.Nat.{◌-◌}
 use mathlib.Core.Path.{◌≡◌}
 use native.Mathlib.Omega.{arith}
-use borrow.Author.Rules.{rules}
 use Rattle.fields.specs.Fields.{breaks_at, rest_length, rest}
 use Rattle.fields.proofs.Runs.{until-within}
 use Rattle.fields.proofs.Cursor.rest.Goals as goal

@@ -1,13 +1,10 @@
 -- `fields::digits::digits_at` meets its contract. The invariant: the digits from `i` on, after the value `v`, end where the digits from `at` on do,
 -- and their value, kept at one more than `most`, is the same. Assumes nothing.
-use Prim.Native.Nat.{◌+◌, ◌-◌, ◌≤◌, min}
-use mathlib.Core.Path.{◌≡◌, refl, sym, ap, ◌∙◌}
+use Prim.Native.Nat.{◌+◌}
+use mathlib.Core.Path.{sym, ap, ◌∙◌}
 use native.Mathlib.Omega.{arith}
-use lib.ListN.{length, get_or}
-use Rattle.fields.specs.Fields.{value}
-use Rattle.fields.specs.inner.Digits.{digits_at}
-use Rattle.fields.proofs.Decimal.{digits_out, digits_stop, digits_more, digit_from, value_none, value-more}
-use borrow.Author.Rules.{rules}
+use lib.ListN.{length}
+use Rattle.fields.proofs.Decimal.{digits_out, digits_stop, digits_more, value_none, value-more}
 use Rattle.fields.proofs.digits.digits_at.Goals as goal
 
 pub loop-i-preserved : goal.loop-i-preserved

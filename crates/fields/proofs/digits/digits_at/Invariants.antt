@@ -1,13 +1,10 @@
 -- `fields::digits::digits_at` meets its contract. The invariant: the digits from `i` on, after the value `v`, end where the digits from `at` on do,
 -- and their value, kept at one more than `most`, is the same. Assumes nothing.
 use Prim.Native.Nat.{◌+◌, ◌-◌, ◌≤◌, min}
-use mathlib.Core.Path.{◌≡◌, refl, sym, ap, ◌∙◌}
-use native.Mathlib.Omega.{arith}
-use lib.ListN.{length, get_or}
+use mathlib.Core.Path.{◌≡◌}
+use lib.ListN.{length}
 use Rattle.fields.specs.Fields.{value}
 use Rattle.fields.specs.inner.Digits.{digits_at}
-use Rattle.fields.proofs.Decimal.{digits_out, digits_stop, digits_more, digit_from, value_none, value-more}
-use borrow.Author.Rules.{rules}
 use Rattle.fields.proofs.digits.digits_at.Given as goal
 
 abbrev pub invariant-loop-i : goal.invariant-loop-i

@@ -1,7 +1,6 @@
 -- `fields::digits::ends_field` meets its contract. Assumes nothing.
 use mathlib.Core.Path.{sym, ◌∙◌}
 use Rattle.fields.proofs.Naturals.{field_out, field_stop}
-use borrow.Author.Rules.{rules}
 use Rattle.fields.proofs.digits.ends_field.Goals as goal
 
 pub returns-then-s-at : goal.returns-then-s-at

@@ -1,5 +1,4 @@
 -- `fields::digits::field_end` meets its contract. Assumes nothing.
-use borrow.Author.Rules.{rules}
 use Rattle.fields.specs.Fields.{field}
 use Rattle.fields.proofs.digits.field_end.Goals as goal
 

@@ -1,5 +1,4 @@
 -- `fields::digits::peek` meets its contract. Assumes nothing.
-use borrow.Author.Rules.{rules}
 use Rattle.fields.specs.Fields.{byte_at}
 use mathlib.Core.Path.{refl}
 use Rattle.fields.proofs.Naturals.{byte_past}

@@ -1,6 +1,5 @@
 -- `fields::ends::breaks_at` meets its contract. Assumes nothing.
 use mathlib.Core.Path.{sym, ◌∙◌}
-use borrow.Author.Rules.{rules}
 use borrow.Author.Tests.{eq-eqb, ne_eqb}
 use Rattle.fields.proofs.LineEnds.{byte_here}
 use Rattle.fields.proofs.ends.breaks_at.Goals as goal

@@ -1,6 +1,5 @@
 -- `fields::ends::ends_line` meets its contract. Assumes nothing.
 use mathlib.Core.Path.{◌∙◌}
-use borrow.Author.Rules.{rules}
 use borrow.Author.Tests.{eq-eqb, ne_eqb}
 use Rattle.fields.proofs.LineEnds.{ends_here}
 use Rattle.fields.proofs.ends.ends_line.Goals as goal

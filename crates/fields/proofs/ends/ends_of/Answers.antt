@@ -1,6 +1,5 @@
 -- `fields::ends::ends_of` meets its contract. Assumes nothing.
 use mathlib.Core.Path.{sym, ◌∙◌}
-use borrow.Author.Rules.{rules}
 use Rattle.fields.proofs.LineEnds.{ends_return, ends-feed}
 use Rattle.fields.proofs.ends.ends_of.Goals as goal
 

@@ -1,12 +1,10 @@
 -- `fields::ends::run_end` meets its contract. The invariant: the end, reckoned from `i`, is the end that is asked.
 -- Assumes nothing.
-use Prim.Native.Nat.{◌+◌, ◌-◌}
-use mathlib.Core.Path.{◌≡◌, refl, sym, ap, ◌∙◌}
+use mathlib.Core.Path.{sym, ap, ◌∙◌}
 use native.Mathlib.Omega.{arith}
-use borrow.Author.Rules.{rules}
-use lib.ListN.{length, drop}
+use lib.ListN.{length}
 use Rattle.fields.proofs.Runs.{run_out, run_stop, run_more}
-use Rattle.fields.specs.Fields.{until, breaks_at}
+use Rattle.fields.specs.Fields.{breaks_at}
 use Rattle.fields.proofs.ends.run_end.Goals as goal
 
 pub returns-then-breaks_at : goal.returns-then-breaks_at

@@ -1,11 +1,8 @@
 -- `fields::ends::run_end` meets its contract. The invariant: the end, reckoned from `i`, is the end that is asked.
 -- Assumes nothing.
 use Prim.Native.Nat.{◌+◌, ◌-◌}
-use mathlib.Core.Path.{◌≡◌, refl, sym, ap, ◌∙◌}
-use native.Mathlib.Omega.{arith}
-use borrow.Author.Rules.{rules}
+use mathlib.Core.Path.{◌≡◌}
 use lib.ListN.{length, drop}
-use Rattle.fields.proofs.Runs.{run_out, run_stop, run_more}
 use Rattle.fields.specs.Fields.{until, breaks_at}
 use Rattle.fields.proofs.ends.run_end.Given as goal
 

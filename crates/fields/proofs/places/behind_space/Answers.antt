@@ -1,9 +1,6 @@
 -- `behind_space`: the place behind the first space, reckoned from `i`, is the place that is asked.
-use Prim.Native.Nat.{◌-◌}
-use mathlib.Core.Path.{◌≡◌, refl, ◌∙◌}
-use lib.ListN.{length}
-use borrow.Author.Rules.{rules}
-use Rattle.fields.specs.Fields.{byte_at, behind_space}
+use mathlib.Core.Path.{◌∙◌}
+use Rattle.fields.specs.Fields.{byte_at}
 use Rattle.fields.proofs.Fieldwise.{behind_here, behind-next, behind_end}
 use Rattle.fields.proofs.places.behind_space.Goals as goal
 

@@ -1,10 +1,8 @@
 -- `behind_space`: the place behind the first space, reckoned from `i`, is the place that is asked.
 use Prim.Native.Nat.{◌-◌}
-use mathlib.Core.Path.{◌≡◌, refl, ◌∙◌}
+use mathlib.Core.Path.{◌≡◌}
 use lib.ListN.{length}
-use borrow.Author.Rules.{rules}
-use Rattle.fields.specs.Fields.{byte_at, behind_space}
-use Rattle.fields.proofs.Fieldwise.{behind_here, behind-next, behind_end}
+use Rattle.fields.specs.Fields.{behind_space}
 use Rattle.fields.proofs.places.behind_space.Given as goal
 
 abbrev pub invariant-loop-i : goal.invariant-loop-i

@@ -1,8 +1,6 @@
 -- `field_place`: the place of field `left`, reckoned from `place`, is the place that is asked.
-use mathlib.Core.Path.{◌≡◌, refl, ◌∙◌}
-use borrow.Author.Rules.{rules}
+use mathlib.Core.Path.{◌≡◌}
 use Rattle.fields.specs.Fields.{field_place}
-use Rattle.fields.proofs.Fieldwise.{field_next, field-none}
 use Rattle.fields.proofs.places.field_place.Given as goal
 
 abbrev pub invariant-loop-left : goal.invariant-loop-left

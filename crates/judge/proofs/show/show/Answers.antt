@@ -1,7 +1,6 @@
 -- `judge::show::show` meets its contract. Assumes nothing.
 use mathlib.Core.Path.{sym, ◌∙◌}
 use Rattle.judge.proofs.Parts.{behind_end, shows_text, shows_candidate, shows_none}
-use borrow.Author.Rules.{rules}
 use Rattle.judge.proofs.show.show.Goals as goal
 
 pub returns-then-in_text : goal.returns-then-in_text

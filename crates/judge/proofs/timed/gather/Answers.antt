@@ -1,9 +1,8 @@
 -- `gather`: before difference i, the first n places have those of the first i whose atom is marked, and the places from i on are as they were.
-use Prim.Native.Nat.{◌-◌}
 use mathlib.Core.Path.{sym, ◌∙◌}
 use borrow.Author.Rules.{rules}
 use borrow.Author.Tests.{not-true, not-false}
-use Rattle.judge.proofs.Gathering.{Going, going_start, going_pass, going_take, going_end}
+use Rattle.judge.proofs.Gathering.{going_start, going_pass, going_take}
 use Rattle.judge.proofs.timed.gather.Goals as goal
 
 pub loop-i-init : goal.loop-i-init

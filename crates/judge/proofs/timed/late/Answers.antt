@@ -1,11 +1,5 @@
 -- `late`: the marked names from i on decide, as all of them do.
-use Prim.Native.Nat.{◌-◌}
-use mathlib.Core.Path.{◌≡◌, refl, ◌∙◌}
-use borrow.Author.Rules.{rules}
-use lib.ListN.{length}
-use Rattle.basics.specs.inner.Bitmaps.{marked_from}
-use Rattle.timetable.specs.inner.Given.{time_at}
-use Rattle.judge.specs.Judged.{in_time}
+use mathlib.Core.Path.{◌∙◌}
 use Rattle.judge.proofs.Lateness.{late_pass, late-time, late-found, late_end}
 use Rattle.judge.proofs.timed.late.Goals as goal
 

@@ -1,12 +1,10 @@
 -- `late`: the marked names from i on decide, as all of them do.
 use Prim.Native.Nat.{◌-◌}
-use mathlib.Core.Path.{◌≡◌, refl, ◌∙◌}
-use borrow.Author.Rules.{rules}
+use mathlib.Core.Path.{◌≡◌}
 use lib.ListN.{length}
 use Rattle.basics.specs.inner.Bitmaps.{marked_from}
 use Rattle.timetable.specs.inner.Given.{time_at}
 use Rattle.judge.specs.Judged.{in_time}
-use Rattle.judge.proofs.Lateness.{late_pass, late-time, late-found, late_end}
 use Rattle.judge.proofs.timed.late.Given as goal
 
 abbrev pub invariant-loop-i : goal.invariant-loop-i

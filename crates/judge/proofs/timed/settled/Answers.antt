@@ -1,7 +1,6 @@
 -- `settled`: a cycle is shown as `decide` left it; earliest times are never late, so they can be written.
 use Prim.Native.Nat.{ℕ}
 use mathlib.Core.Path.{◌∙◌}
-use borrow.Author.Rules.{rules}
 use lib.ListN.{length-replicate}
 use Rattle.faults.specs.inner.Places.{term_places}
 use Rattle.judge.proofs.Blank.{labelled_given}

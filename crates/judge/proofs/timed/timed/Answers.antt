@@ -1,14 +1,12 @@
 -- `timed`: the front parts that `gather` left are the differences in force, whatever lines state them.
 use Prim.Native.Nat.{ℕ}
 use mathlib.Core.Path.{sym, ◌∙◌}
-use native.Mathlib.Omega.{arith}
 use lib.ListN.{length-replicate}
 use Rattle.faults.specs.inner.Places.{term_places}
 use Rattle.terms.proofs.Marking.{marks-zeros}
 use Rattle.judge.proofs.Blank.{part-long, still-within}
 use Rattle.judge.proofs.Gathering.{gathered_labelled}
 use Rattle.judge.proofs.Settling.{settled-timed}
-use borrow.Author.Rules.{rules}
 use Rattle.judge.proofs.timed.timed.Goals as goal
 
 pub mark_names-requires : goal.mark_names-requires

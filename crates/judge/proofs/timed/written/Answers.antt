@@ -1,5 +1,4 @@
 -- `written`: 11 as `late` says it, or the table as `timetable::write` leaves it.
-use borrow.Author.Rules.{rules}
 use Rattle.judge.proofs.Writing.{refused-late, accepted-table}
 use Rattle.judge.proofs.timed.written.Goals as goal
 

@@ -1,6 +1,5 @@
 -- `against`: one law for each way out.
 use Rattle.terms.proofs.Reading.{against_out, against-not, against-is}
-use borrow.Author.Rules.{rules}
 use Rattle.terms.proofs.difference.against.Goals as goal
 
 pub returns-then-e-eq0 : goal.returns-then-e-eq0

@@ -1,8 +1,6 @@
 -- `bound`: one law for each way out.
 use mathlib.Core.Path.{◌∙◌}
-use borrow.Author.Tests.{not-true, not-false}
 use Rattle.terms.proofs.Reading.{bound_out, bound-number, bound-not, bound-minus}
-use borrow.Author.Rules.{rules}
 use Rattle.terms.proofs.difference.bound.Goals as goal
 
 pub returns-then-e-eq0 : goal.returns-then-e-eq0

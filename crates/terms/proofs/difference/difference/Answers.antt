@@ -1,8 +1,6 @@
 -- `difference`: one law for each way out.
 use mathlib.Core.Path.{◌∙◌}
-use borrow.Author.Tests.{not-true, not-false}
 use Rattle.terms.proofs.Reading.{diff_plain, diff_many, diff-named, diff-guard, diff_is}
-use borrow.Author.Rules.{rules}
 use Rattle.terms.proofs.difference.difference.Goals as goal
 
 pub returns-then-kind-ne-GUARDED : goal.returns-then-kind-ne-GUARDED

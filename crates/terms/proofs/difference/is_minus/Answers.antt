@@ -2,7 +2,6 @@
 use mathlib.Core.Path.{◌∙◌}
 use Rattle.terms.specs.inner.Tables.{look_in}
 use Rattle.terms.proofs.Reading.{minus_other, minus-term}
-use borrow.Author.Rules.{rules}
 use Rattle.terms.proofs.difference.is_minus.Goals as goal
 
 pub returns-then-is_term : goal.returns-then-is_term

@@ -2,7 +2,6 @@
 use mathlib.Core.Path.{◌∙◌}
 use Rattle.terms.specs.inner.Tables.{look_in}
 use Rattle.terms.proofs.Reading.{minus_out, minus-not, minus_many, minus_is}
-use borrow.Author.Rules.{rules}
 use Rattle.terms.proofs.difference.minus_of.Goals as goal
 
 pub returns-then-e-eq0 : goal.returns-then-e-eq0

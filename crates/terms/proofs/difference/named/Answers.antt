@@ -1,7 +1,6 @@
 -- `named`: the entry of a string, whose bytes are compared.
 use mathlib.Core.Path.{◌∙◌}
 use Rattle.terms.proofs.Reading.{string_out, string-not, string-is}
-use borrow.Author.Rules.{rules}
 use Rattle.terms.proofs.difference.named.Goals as goal
 
 pub returns-then-e-eq0 : goal.returns-then-e-eq0

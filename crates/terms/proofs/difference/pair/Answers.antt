@@ -1,9 +1,8 @@
 -- `pair`: one law for each way out.
 use mathlib.Core.Path.{sym, ◌∙◌}
 use native.Mathlib.Omega.{arith}
-use borrow.Author.Tests.{not-true, not-false}
+use borrow.Author.Tests.{not-false}
 use Rattle.terms.proofs.Reading.{minus_there, pair-not, pair_is}
-use borrow.Author.Rules.{rules}
 use Rattle.terms.proofs.difference.pair.Goals as goal
 
 pub returns-then-not-minus_of : goal.returns-then-not-minus_of

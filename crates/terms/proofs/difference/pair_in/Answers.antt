@@ -2,7 +2,6 @@
 use mathlib.Core.Path.{◌∙◌}
 use Rattle.terms.specs.inner.Tables.{look_in}
 use Rattle.terms.proofs.Reading.{in_none, in_not, in_many, in_condition, in_is}
-use borrow.Author.Rules.{rules}
 use Rattle.terms.proofs.difference.pair_in.Goals as goal
 
 pub returns-then-e-eq0 : goal.returns-then-e-eq0

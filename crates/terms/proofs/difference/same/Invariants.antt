@@ -1,12 +1,10 @@
 -- `same`: what is left of both strings decides the whole; each turn passes one byte that is the same.
 use Prim.Native.Nat.{◌+◌, ◌-◌}
-use mathlib.Core.Path.{◌≡◌, ◌∙◌}
-use native.Mathlib.Omega.{arith}
+use mathlib.Core.Path.{◌≡◌}
 use lib.ListN.{length}
 use Rattle.terms.specs.Terms.{same_bytes}
 use Rattle.aspif.specs.inner.Words.{words_from}
-use Rattle.terms.proofs.Strings.{rest, same_start, same_end, same-short, same_other, same_on}
-use borrow.Author.Rules.{rules}
+use Rattle.terms.proofs.Strings.{rest}
 use Rattle.terms.proofs.difference.same.Given as goal
 
 abbrev pub invariant-loop-i : goal.invariant-loop-i

@@ -5,7 +5,6 @@ use Rattle.terms.specs.inner.Values.{as_use}
 use Rattle.terms.proofs.Signs.{back}
 use Rattle.terms.proofs.ByKind.{atom-room}
 use Rattle.terms.proofs.Turns.{turn_refused, atom-unknown, atom-second, atom_no_difference, atom-turned}
-use borrow.Author.Rules.{rules}
 use Rattle.terms.proofs.lines.take_atom.Goals as goal
 
 pub returns-in-At : goal.returns-in-At

@@ -4,7 +4,6 @@ use native.Mathlib.Omega.{arith}
 use Rattle.terms.specs.inner.Values.{as_use}
 use Rattle.terms.proofs.ByKind.{element_room}
 use Rattle.terms.proofs.Turns.{turn_refused, defined-twice, defined-unknown, element_before, element_turned}
-use borrow.Author.Rules.{rules}
 use Rattle.terms.proofs.lines.take_element.Goals as goal
 
 pub returns-then-collected-ne0 : goal.returns-then-collected-ne0

@@ -1,7 +1,6 @@
 -- `take_line`: by the role of the line, which its kind tells.
 use Rattle.terms.proofs.ByKind.{role_is}
 use Rattle.terms.proofs.Turns.{other_turned}
-use borrow.Author.Rules.{rules}
 use Rattle.terms.proofs.lines.take_line.Goals as goal
 
 pub returns-in-Term : goal.returns-in-Term

@@ -4,7 +4,6 @@ use native.Mathlib.Omega.{arith}
 use Rattle.terms.specs.inner.Values.{as_use}
 use Rattle.terms.proofs.ByKind.{term-room}
 use Rattle.terms.proofs.Turns.{turn_refused, defined-twice, defined-unknown, term-before, term-turned}
-use borrow.Author.Rules.{rules}
 use Rattle.terms.proofs.lines.take_term.Goals as goal
 
 pub returns-then-defined-ne0 : goal.returns-then-defined-ne0

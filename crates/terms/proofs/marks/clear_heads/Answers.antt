@@ -1,7 +1,6 @@
 -- `clear_heads`: the heads of the lines to come, and those cleared, are all.
 use Rattle.aspif.proofs.Walking.{ahead_starts, ahead-next}
-use Rattle.terms.proofs.Marking.{Heading, heads-start, heads-next, heads_end}
-use borrow.Author.Rules.{rules}
+use Rattle.terms.proofs.Marking.{heads-next, heads_end}
 use Rattle.terms.proofs.marks.clear_heads.Goals as goal
 
 pub clear_line-requires : goal.clear_line-requires

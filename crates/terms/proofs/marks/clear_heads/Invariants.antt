@@ -1,7 +1,5 @@
 -- `clear_heads`: the heads of the lines to come, and those cleared, are all.
-use Rattle.aspif.proofs.Walking.{ahead_starts, ahead-next}
-use Rattle.terms.proofs.Marking.{Heading, heads-start, heads-next, heads_end}
-use borrow.Author.Rules.{rules}
+use Rattle.terms.proofs.Marking.{Heading}
 use Rattle.terms.proofs.marks.clear_heads.Given as goal
 
 abbrev pub invariant-loop-left : goal.invariant-loop-left

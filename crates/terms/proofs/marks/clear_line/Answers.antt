@@ -1,7 +1,5 @@
 -- `clear_line`: a rule has its head atoms cleared, another line has none.
-use native.Mathlib.Omega.{arith}
 use Rattle.terms.proofs.Marking.{line-none, line-heads}
-use borrow.Author.Rules.{rules}
 use Rattle.terms.proofs.marks.clear_line.Goals as goal
 
 pub returns-then-kind-ne-RULE : goal.returns-then-kind-ne-RULE

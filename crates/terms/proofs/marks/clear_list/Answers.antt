@@ -1,6 +1,5 @@
 -- `clear_list`: those left and those cleared are all.
-use Rattle.terms.proofs.Marking.{Listing, list-start, list-next, list_end}
-use borrow.Author.Rules.{rules}
+use Rattle.terms.proofs.Marking.{list-next, list_end}
 use Rattle.terms.proofs.marks.clear_list.Goals as goal
 
 pub loop-left-preserved : goal.loop-left-preserved

@@ -1,6 +1,5 @@
 -- `clear_list`: those left and those cleared are all.
-use Rattle.terms.proofs.Marking.{Listing, list-start, list-next, list_end}
-use borrow.Author.Rules.{rules}
+use Rattle.terms.proofs.Marking.{Listing}
 use Rattle.terms.proofs.marks.clear_list.Given as goal
 
 abbrev pub invariant-loop-left : goal.invariant-loop-left

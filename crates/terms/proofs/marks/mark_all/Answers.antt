@@ -1,9 +1,5 @@
 -- `mark_all`: what was marked, and the numbers passed.
-use Prim.Native.Nat.{◌-◌}
-use mathlib.Core.Path.{◌≡◌}
-use native.Mathlib.Omega.{arith}
-use Rattle.terms.proofs.Marking.{Marking, marking_start, marking_next}
-use borrow.Author.Rules.{rules}
+use Rattle.terms.proofs.Marking.{marking_next}
 use Rattle.terms.proofs.marks.mark_all.Goals as goal
 
 pub loop-i-preserved : goal.loop-i-preserved

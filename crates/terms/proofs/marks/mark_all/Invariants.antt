@@ -1,9 +1,6 @@
 -- `mark_all`: what was marked, and the numbers passed.
 use Prim.Native.Nat.{◌-◌}
-use mathlib.Core.Path.{◌≡◌}
-use native.Mathlib.Omega.{arith}
-use Rattle.terms.proofs.Marking.{Marking, marking_start, marking_next}
-use borrow.Author.Rules.{rules}
+use Rattle.terms.proofs.Marking.{Marking}
 use Rattle.terms.proofs.marks.mark_all.Given as goal
 
 abbrev pub invariant-loop-i : goal.invariant-loop-i

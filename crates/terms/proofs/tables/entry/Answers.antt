@@ -2,8 +2,6 @@
 use mathlib.Core.Path.{refl}
 use Rattle.aspif.specs.inner.Words.{word}
 use Rattle.aspif.proofs.Walking.{word_out}
-use native.Mathlib.Omega.{arith}
-use borrow.Author.Rules.{rules}
 use Rattle.terms.proofs.tables.entry.Goals as goal
 
 pub returns-then-table-i : goal.returns-then-table-i

@@ -1,6 +1,5 @@
 -- `is_entered`: what is read is not 0, or the atom is past the end.
 use mathlib.Core.Path.{refl}
-use borrow.Author.Rules.{rules}
 use Rattle.aspif.specs.inner.Words.{word}
 use Rattle.aspif.proofs.Walking.{word_out}
 use Rattle.terms.specs.inner.Tables.{entered}

@@ -2,7 +2,6 @@
 use mathlib.Core.Path.{ap}
 use Rattle.terms.specs.inner.Values.{as_use}
 use Rattle.terms.proofs.Using.{atom-name, atom_element, atom-guard}
-use borrow.Author.Rules.{rules}
 use Rattle.terms.proofs.uses.atom_use.Goals as goal
 
 pub returns-in_default : goal.returns-in_default

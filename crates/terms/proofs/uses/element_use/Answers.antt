@@ -1,6 +1,5 @@
 -- `element_use`: an element uses its terms.
 use Rattle.terms.proofs.Using.{element_terms}
-use borrow.Author.Rules.{rules}
 use Rattle.terms.proofs.uses.element_use.Goals as goal
 
 pub returns : goal.returns

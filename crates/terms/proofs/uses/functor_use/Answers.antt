@@ -1,6 +1,4 @@
 -- `functor_use`: t is unknown if it is a term number without an entry.
-use borrow.Author.Rules.{rules}
-use borrow.Author.Tests.{not-true, not-false}
 use Rattle.terms.proofs.Using.{functor-none, functor-unknown, functor-known}
 use Rattle.terms.proofs.uses.functor_use.Goals as goal
 

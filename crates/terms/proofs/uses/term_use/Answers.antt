@@ -2,7 +2,6 @@
 use mathlib.Core.Path.{ap}
 use Rattle.terms.specs.inner.Values.{as_use}
 use Rattle.terms.proofs.Using.{term_plain, term-functor, term_arguments}
-use borrow.Author.Rules.{rules}
 use Rattle.terms.proofs.uses.term_use.Goals as goal
 
 pub returns-then-kind-ne-COMPOUND : goal.returns-then-kind-ne-COMPOUND

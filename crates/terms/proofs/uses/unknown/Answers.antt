@@ -1,12 +1,7 @@
 -- `unknown`: the leftmost of those left decides the whole; each turn passes one that is entered.
-use Prim.Native.Nat.{◌+◌}
-use mathlib.Core.Path.{◌≡◌, refl, ◌∙◌}
+use mathlib.Core.Path.{◌∙◌}
 use native.Mathlib.Omega.{arith}
-use Rattle.aspif.specs.inner.Words.{words_from}
-use Rattle.terms.specs.Reasons.{unknown_from}
-use Rattle.terms.specs.inner.Tables.{entered}
 use Rattle.terms.proofs.Using.{unknown-none, unknown_here, unknown-later}
-use borrow.Author.Rules.{rules}
 use Rattle.terms.proofs.uses.unknown.Goals as goal
 
 pub returns-then-e-eq0 : goal.returns-then-e-eq0

@@ -1,12 +1,9 @@
 -- `unknown`: the leftmost of those left decides the whole; each turn passes one that is entered.
 use Prim.Native.Nat.{◌+◌}
-use mathlib.Core.Path.{◌≡◌, refl, ◌∙◌}
-use native.Mathlib.Omega.{arith}
+use mathlib.Core.Path.{◌≡◌}
 use Rattle.aspif.specs.inner.Words.{words_from}
 use Rattle.terms.specs.Reasons.{unknown_from}
 use Rattle.terms.specs.inner.Tables.{entered}
-use Rattle.terms.proofs.Using.{unknown-none, unknown_here, unknown-later}
-use borrow.Author.Rules.{rules}
 use Rattle.terms.proofs.uses.unknown.Given as goal
 
 abbrev pub invariant-loop-left : goal.invariant-loop-left
