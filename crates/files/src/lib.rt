@@ -1,15 +1,37 @@
 // Files: their bytes, and the cases of a container.
 #![tactic(auto)]
+
 ghost use Rattle.io.specs.Counts.{IsPrefixLen};
 
 pub mod container;
 
-// The first bytes of a file, at the start of a buffer, and how many they are; none if it can't be opened or read.
-pub fn load(path: &[u8], buf: &mut [u8]) -> usize
+use std::fs;
+use std::io::Read;
+use std::rt::Files;
+
+// Reads until a buffer is full, the file ends or a read fails, and gives how many bytes stand at the start of the buffer.
+fn read_full<F: Read>(file: &mut F, buf: &mut [u8]) -> usize
     ensures { IsPrefixLen result buf.new }
 {
-    let fd = os::open_read(path);
-    let n = io::read_full(fd, buf);
-    libc::close(fd);
-    n
+    let mut done = 0;
+    while done < buf.len() {
+        match file.read(&mut buf[done..]) {
+            Ok(0) | Err(_) => return done,
+            Ok(n) => done += n,
+        }
+    }
+    done
+}
+
+// The first bytes of a file, at the start of a buffer, and how many they are; none if it can't be opened or read, as where its path is no text.
+pub fn load<R: Files>(rt: &R, path: &[u8], buf: &mut [u8]) -> usize
+    ensures { IsPrefixLen result buf.new }
+{
+    match str::from_utf8(path) {
+        Ok(name) => match fs::open(rt, name) {
+            Ok(mut file) => read_full(&mut file, buf),
+            Err(_) => 0,
+        },
+        Err(_) => 0,
+    }
 }
