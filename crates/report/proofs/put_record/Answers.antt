@@ -1,0 +1,6 @@
+-- `put_record`: the name, the time and the line end. Assumes nothing.
+use Rattle.report.proofs.Putting.{put_both}
+use Rattle.report.proofs.put_record.Goals as goal
+
+pub returns : goal.returns
+returns c = put_both (put_both (rw c.wide.ensures at c.put_number-a.ensures) c.put_next-b.ensures) c.put.ensures
