@@ -8,6 +8,9 @@ use fields::{Cursor, FEED, WordField};
 // The bytes of the longest case.
 const LONGEST_CASE: u32 = LONGEST_TEXT as u32;
 
+// The byte that follows the bytes of a case.
+const CASE_END: u8 = FEED;
+
 // Where a case stands: the end of its name, then the start and the end of its bytes.
 #[derive(Clone, Copy)]
 pub enum Case {
@@ -28,7 +31,7 @@ pub fn case_at(s: &[u8], at: usize) -> Case
     };
     let size = n as usize;
     let end = start.ahead(size);
-    if end.look(s) != FEED {
+    if end.look(s) != CASE_END {
         return Case::Nothing;
     }
     Case::At(name.at, start.at, end.at)

@@ -14,6 +14,9 @@ use faults::{CYCLE_ROOM, Refusal, TABLE_ROOM, TermNo};
 use judge::Verdict;
 use timetable::{HEADER, word_at};
 
+// The refusal that has a list.
+const LISTED: u32 = 10;
+
 // A number as a wider one.
 fn wide(n: u32) -> u64
     ensures { result ≡ n }
@@ -141,7 +144,7 @@ fn put_refused(out: &mut [u8], refusal: Refusal, cycle: &[u32]) -> usize
     let place = refusal.place;
     let a = put(out, 0, b"refused");
     let b = put_two(out, a, kind.number() as u64, place as u64);
-    if kind.number() != 10 {
+    if kind.number() != LISTED {
         return b;
     }
     if cycle.len() < place {

@@ -13,12 +13,12 @@ returns-in_default c = rw (← name_end c.args.s.now c.args.at c.start-from.ensu
 pub ahead-end-requires : goal.ahead-end-requires
 ahead-end-requires c = omega (arith, length_in _ _ (sym (ap as_word c.in-Got.is) ∙ c.natural_then-a.ensures))
 
-pub returns-then-look-ne-FEED : goal.returns-then-look-ne-FEED
+pub returns-then-look-ne-CASE_END : goal.returns-then-look-ne-CASE_END
 unfolding case_at
-returns-then-look-ne-FEED c =
-    rw (← name_end c.args.s.now c.args.at c.start-from.ensures c.ahead-c.ensures c.past_field-name.ensures, ← c.natural_then-a.ensures, c.in-Got.is, ← c.ahead-end.ensures, ← c.look.ensures, ne_eqb _ _ c.if-look-ne-FEED.true)
+returns-then-look-ne-CASE_END c =
+    rw (← name_end c.args.s.now c.args.at c.start-from.ensures c.ahead-c.ensures c.past_field-name.ensures, ← c.natural_then-a.ensures, c.in-Got.is, ← c.ahead-end.ensures, ← c.look.ensures, ne_eqb _ _ c.if-look-ne-CASE_END.true)
 
 pub returns : goal.returns
 unfolding case_at
 returns c =
-    rw (← name_end c.args.s.now c.args.at c.start-from.ensures c.ahead-c.ensures c.past_field-name.ensures, ← c.natural_then-a.ensures, c.in-Got.is, ← c.ahead-end.ensures, ← c.look.ensures, eq-eqb _ _ c.if-look-ne-FEED.false)
+    rw (← name_end c.args.s.now c.args.at c.start-from.ensures c.ahead-c.ensures c.past_field-name.ensures, ← c.natural_then-a.ensures, c.in-Got.is, ← c.ahead-end.ensures, ← c.look.ensures, eq-eqb _ _ c.if-look-ne-CASE_END.false)
