@@ -150,8 +150,8 @@ fn put_ends(text: &mut [u8], n: usize)
     requires { (16 ≤ n) × (n ≤ length text.old) }
     ensures { text.new ≡ commented text.old n }
 {
-    bytes::copy(b"asp 1 0 0\n10 ", text);
-    bytes::copy(b"\n0\n", &mut text[n - 3..]);
+    text[..13].copy_from_slice(b"asp 1 0 0\n10 ");
+    text[n - 3..n].copy_from_slice(b"\n0\n");
 }
 
 // Judges a text of n bytes, a comment between its first line and its last, with the empty candidate.
