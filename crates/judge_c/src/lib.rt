@@ -1,5 +1,6 @@
 // The judge for C and Rust callers: numbers and slices only, each answer packed into one 64-bit number.
 #![tactic(auto)]
+
 ghost use Rattle.std.specs.Prelude.{◌≡◌, ◌+◌, ◌*◌, ◌<◌, min, length};
 ghost use Rattle.faults.specs.Values.{number};
 ghost use Rattle.timetable.specs.Times.{time_of};

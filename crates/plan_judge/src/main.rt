@@ -1,5 +1,6 @@
 // Judges the plan of `plan.aspif` with the candidate of `plan.cand`, and prints the verdict.
 #![tactic(auto)]
+
 ghost use Rattle.io.specs.Counts.{IsPrefixLen};
 
 use files::load;

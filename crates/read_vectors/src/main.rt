@@ -1,6 +1,7 @@
 // Runs the reader's vectors: prints what reading gives for each text of `texts` and each candidate of `candidates`:
 // `refused NUMBER PLACE`, or `read COUNT` and the words of each line, or `candidate COUNT` and the atoms.
 #![tactic(auto)]
+
 ghost use Rattle.std.specs.Prelude.{◌≡◌, ◌≤◌, length};
 ghost use Rattle.files.specs.inner.Cases.{case_at, next_at};
 ghost use Rattle.faults.specs.Limits.{longest_text};

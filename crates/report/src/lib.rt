@@ -1,6 +1,7 @@
 // What the program prints of a verdict, as bytes: `accepted NAMES ATOMS` and a line `TERM TIME` for each name, or
 // `refused NUMBER PLACE` and, after 10, a line with the cycle.
 #![tactic(auto)]
+
 ghost use Rattle.std.specs.Prelude.{◌≡◌, ◌+◌, ◌*◌, ◌≤◌, length, drop};
 ghost use Rattle.io.specs.Counts.{IsPrefixLen};
 ghost use Rattle.faults.specs.Values.{number};

@@ -1,6 +1,7 @@
 // Runs the judge's vectors: prints what judging gives for each pair of a text and a candidate of `plans`, and for two long
 // texts: the verdict, then the timetable's bytes and times, or the faulty part.
 #![tactic(auto)]
+
 ghost use Rattle.std.specs.Prelude.{◌≡◌, ◌≤◌, min, length};
 ghost use Rattle.files.specs.inner.Cases.{case_at, next_at};
 ghost use Rattle.vectors.specs.inner.Long.{commented};

@@ -13,5 +13,5 @@ returns c =
     let text = c.args.text.now in
     let n = c.args.n in
     let first : c.copy_from_slice.new.self ++ drop 13 text ≡ sets text 0 opening =
-        rw c.copy_from_slice.ensures.after (copied_front opening text (omega arith)) in
+    rw c.copy_from_slice.ensures.after (copied_front opening text (omega arith)) in
     rw (c.copy_from_slice-2.ensures.after, first) (copied_mid closing (sets text 0 opening) (n - 3) n (omega arith) (omega (arith, length-sets text 0 opening)))
