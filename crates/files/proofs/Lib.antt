@@ -1,2 +1,3 @@
 -- General laws.
 pub mod Cases
+pub mod Reading

@@ -1,6 +1,8 @@
 // Files: their bytes, and the cases of a container.
 #![tactic(auto)]
 
+ghost use Rattle.std.specs.Prelude.{take};
+ghost use Rattle.std.specs.Io.KnownBytes.{Consumes};
 ghost use Rattle.io.specs.Counts.{IsPrefixLen};
 
 pub mod container;
@@ -11,13 +13,15 @@ use std::rt::Files;
 
 // Reads until a buffer is full, the file ends or a read fails, and gives how many bytes stand at the start of the buffer.
 fn read_full<F: Read>(file: &mut F, buf: &mut [u8]) -> usize
-    ensures { IsPrefixLen result buf.new }
+    ensures prefix_len { IsPrefixLen result buf.new }
+    ensures bytes { Consumes (F.remaining file.old) (F.remaining file.new) (take result buf.new) }
 {
     let mut done = 0;
     while done < buf.len() {
         match file.read(&mut buf[done..]) {
-            Ok(0) | Err(_) => return done,
+            Ok(0) => return done,
             Ok(n) => done += n,
+            Err(_) => return done,
         }
     }
     done

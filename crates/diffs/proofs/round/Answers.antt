@@ -16,11 +16,12 @@ use Rattle.diffs.proofs.round.Goals as goal
 use Rattle.diffs.proofs.round.Goals.{then-relax, else-relax}
 
 pub relax-requires-clause-x_bound : goal.relax-requires-clause-x_bound
-relax-requires-clause-x_bound c = let u = c.requires in
+relax-requires-clause-x_bound c =
+    let u = c.requires in
     let l = c.loop-i in
     let v = l.invariant.1 u.r u.before u.state in
-    let h = u.slices.named l.i c.loop-i-test.true in
-    let f = room _ _ _ _ _ _ _ _ v (omega (arith, u.early, u.names)) u.slices.few (omega arith) in (f _, f _)
+    let f = room _ _ _ _ _ _ _ _ v (omega (arith, u.early, u.names)) u.slices.few (omega arith) in
+    (f _, f _)
 
 pub loop-i-preserved : goal.loop-i-preserved
 loop-i-preserved c =

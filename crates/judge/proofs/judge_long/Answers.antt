@@ -11,10 +11,12 @@ use Rattle.judge.proofs.Staging.{lent_refuses, lent-sized, overlong}
 use Rattle.judge.proofs.judge_long.Goals as goal
 
 pub returns-in_default : goal.returns-in_default
-returns-in_default c = lent_refuses _ _ (sym (ap (mapped {A = ℕ} {B = Unit {0}} (λ n. tt)) (rw c.in_default.is at c.refusal.ensures)) ∙ (rw c.in_default.is at c.lent-l.ensures))
+returns-in_default c = lent_refuses _ _ (sym (ap (mapped {A = ℕ} {B = Unit {0}} (λ n. tt)) (rw c.in_default.is at c.refusal.ensures)) ∙
+    (rw c.in_default.is at c.lent-l.ensures))
 
 pub returns-then-text-gt-LONGEST_TEXT : goal.returns-then-text-gt-LONGEST_TEXT
-returns-then-text-gt-LONGEST_TEXT c = rw c.refuse.ensures (overlong _ _ (lent-sized _ (rw c.in-Good.is at c.lent-l.ensures)) c.if-text-gt-LONGEST_TEXT.true)
+returns-then-text-gt-LONGEST_TEXT c = rw c.refuse.ensures (overlong _ _ (lent-sized _ (rw c.in-Good.is at c.lent-l.ensures))
+    c.if-text-gt-LONGEST_TEXT.true)
 
 pub before_times-u-requires-clause-roomy : goal.before_times-u-requires-clause-roomy
 before_times-u-requires-clause-roomy c = (rw (length-replicate {A = ℕ} longest_text 0) (new_room longest_text 6667 (omega arith)), blank_zeros)

@@ -11,7 +11,8 @@ use Rattle.judge.proofs.Staging.{lent_refuses, lent-sized}
 use Rattle.judge.proofs.judge_short.Goals as goal
 
 pub returns-in_default : goal.returns-in_default
-returns-in_default c = lent_refuses _ _ (sym (ap (mapped {A = ℕ} {B = Unit {0}} (λ n. tt)) (rw c.in_default.is at c.refusal.ensures)) ∙ (rw c.in_default.is at c.lent-l.ensures))
+returns-in_default c = lent_refuses _ _ (sym (ap (mapped {A = ℕ} {B = Unit {0}} (λ n. tt)) (rw c.in_default.is at c.refusal.ensures)) ∙
+    (rw c.in_default.is at c.lent-l.ensures))
 
 pub before_times-u-requires-clause-roomy : goal.before_times-u-requires-clause-roomy
 before_times-u-requires-clause-roomy c = (rw (length-replicate {A = ℕ} short_text 0) (new_room short_text 223 (omega arith)), blank_zeros)

@@ -17,7 +17,8 @@ pub bounds-tape-p : goal.bounds-tape-p
 bounds-tape-p c = omega (arith, here c.loop-left.invariant c.loop-left-test.true)
 
 pub returns-then-is_broken : goal.returns-then-is_broken
-returns-then-is_broken c = broken_here c.loop-left.invariant c.loop-left-test.true c.word_at.ensures.0 c.if-word_at-eq-RULE.true c.is_broken.ensures c.if-is_broken.true
+returns-then-is_broken c = broken_here c.loop-left.invariant c.loop-left-test.true c.word_at.ensures.0 c.if-word_at-eq-RULE.true
+    c.is_broken.ensures c.if-is_broken.true
 
 pub after_at-p-requires : goal.after_at-p-requires
 after_at-p-requires c = omega (arith, here c.loop-left.invariant c.loop-left-test.true)

@@ -12,11 +12,13 @@ pub returns-then-tape-q-ne0 : goal.returns-then-tape-q-ne0
 returns-then-tape-q-ne0 c = choice-whole c.requires.rule_on (is_marked c.args.x.now) c.if-tape-q-ne0.true
 
 pub bounds-x-v : goal.bounds-x-v
-bounds-x-v c = let x = is_marked c.args.x.now in
+bounds-x-v c =
+    let x = is_marked c.args.x.now in
     omega (arith, head-atom c.requires.rule_on x c.if-tape-q-ne0.false (read_word _ _) c.if-n-ne0.true c.atom_at-a.ensures, c.requires.x_len)
 
 pub returns-then-x-v-eq1 : goal.returns-then-x-v-eq1
-returns-then-x-v-eq1 c = let x = is_marked c.args.x.now in
+returns-then-x-v-eq1 c =
+    let x = is_marked c.args.x.now in
     let in-x = eq-eqb _ 1 c.if-x-v-eq1.true in
     head-whole c.requires.rule_on x c.if-tape-q-ne0.false (read_word _ _) c.if-n-ne0.true c.atom_at-a.ensures in-x
 

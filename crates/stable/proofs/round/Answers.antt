@@ -4,7 +4,9 @@ use Rattle.stable.proofs.Rounds.{rule_here, few, visit}
 use Rattle.stable.proofs.round.Goals as goal
 
 pub fire-k-requires-clause-rule_on : goal.fire-k-requires-clause-rule_on
-fire-k-requires-clause-rule_on c = let loop = c.loop-i in rule_here loop.invariant c.requires.readable c.loop-i-test.true
+fire-k-requires-clause-rule_on c =
+    let loop = c.loop-i in
+    rule_here loop.invariant c.requires.readable c.loop-i-test.true
 
 pub overflow_add-t : goal.overflow_add-t
 overflow_add-t c = omega (arith, few c.loop-i.invariant c.fire-k.ensures c.fire-k.auto.found)

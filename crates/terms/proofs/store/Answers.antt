@@ -1,16 +1,21 @@
 -- `store`: a difference goes into the next places, for which there is room.
 use native.Mathlib.Omega.{arith}
+use borrow.Author.Rules.{rules}
 use mir.Syntax.{w32}
-use mir.Val.{to_z, of_z}
+use mir.Val.{SFits, to_z, of_z}
 use Rattle.terms.proofs.Signs.{back}
 use Rattle.terms.proofs.Turns.{stored_refused, stored_one}
 use Rattle.terms.proofs.store.Goals as goal
 
 pub returns-in-States : goal.returns-in-States
-returns-in-States c = let room = (rw c.in-States.is at c.requires) in
-    let k = c.in-States.k in
+returns-in-States c =
     let args = c.args in
-    stored_one args.atoms.now args.xs.now args.ys.now args.ks.now args.n c.in-States.a.0 c.in-States.x.0 c.in-States.y.0 (to_z w32 (of_z w32 k)) (omega (arith, room.in_atoms)) (omega (arith, room.in_xs)) (omega (arith, room.in_ys)) (omega (arith, room.in_ks)) args.s (rw (c.in-States.is, back {z = k} (record { sfits = c.in-States.known_told-1-own.given.1.1.1.0.1 })))
+    let d = c.in-States in
+    let fits : SFits w32 d.k = search rules in
+    let room = rw d.is at c.requires in
+    stored_one args.atoms.now args.xs.now args.ys.now args.ks.now args.n d.a.0 d.x.0 d.y.0 (to_z w32 (of_z w32 d.k))
+        (omega (arith, room.in_atoms)) (omega (arith, room.in_xs)) (omega (arith, room.in_ys)) (omega (arith, room.in_ks)) args.s
+        (rw (d.is, back {z = d.k} fits))
 
 pub returns-in-Refused : goal.returns-in-Refused
 returns-in-Refused c = stored_refused _ _ _ _ c.in-Refused.is

@@ -13,9 +13,12 @@ pub loop-i-preserved : goal.loop-i-preserved
 loop-i-preserved c = (omega (arith, ap length (marked-take c.args.map.now c.loop-i.i c.loop-i-test.true c.if-b-ne1.false)), search rules)
 
 pub returns-clause-value : goal.returns-clause-value
-returns-clause-value c = let map = c.args.map.now in
-    let e = ap length (marked-none map c.loop-i.i c.loop-i-test.false) in omega arith
+returns-clause-value c =
+    let map = c.args.map.now in
+    let e = ap length (marked-none map c.loop-i.i c.loop-i-test.false) in
+    omega arith
 
 pub returns-clause-upper_bound : goal.returns-clause-upper_bound
-returns-clause-upper_bound c = let map = c.args.map.now in
-    let e = ap length (marked-none map c.loop-i.i c.loop-i-test.false) in omega (arith, few-marked map c.args.from)
+returns-clause-upper_bound c =
+    let map = c.args.map.now in
+    omega (arith, few-marked map c.args.from)

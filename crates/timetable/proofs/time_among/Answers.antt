@@ -5,7 +5,8 @@ use Rattle.timetable.proofs.Reading.{time-none, time_here, time_on}
 use Rattle.timetable.proofs.time_among.Goals as goal
 
 pub returns-then-word_at-name : goal.returns-then-word_at-name
-returns-then-word_at-name c = time_here _ _ _ _ _ _ c.loop-left-test.true c.word_at.ensures c.if-word_at-name.true c.word_at-then-word_at-name.ensures ∙ c.loop-left.invariant.0
+returns-then-word_at-name c = time_here _ _ _ _ _ _ c.loop-left-test.true c.word_at.ensures c.if-word_at-name.true
+    c.word_at-then-word_at-name.ensures ∙ c.loop-left.invariant.0
 
 pub loop-left-preserved : goal.loop-left-preserved
 loop-left-preserved c = (time_on _ _ _ _ _ c.loop-left-test.true c.word_at.ensures c.if-word_at-name.false ∙ c.loop-left.invariant.0, search rules)

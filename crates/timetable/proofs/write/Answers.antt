@@ -21,7 +21,8 @@ pub write_atoms-b-requires-clause-atoms_in_bounds : goal.write_atoms-b-requires-
 write_atoms-b-requires-clause-atoms_in_bounds c = omega (arith, few-marked c.args.atoms.now 1)
 
 pub returns : goal.returns
-returns c = let write-header = c.write_header in
+returns c =
+    let write-header = c.write_header in
     let write-names = c.write_names-a in
     let write-atoms = c.write_atoms-b in
     let names = c.args.names.now in
@@ -35,6 +36,7 @@ returns c = let write-header = c.write_header in
     let r₁ = take header_length l ++ (p₁ ++ drop (length l - header_length) (drop header_length l)) in
     let r₂ = take at r₁ ++ (p₂ ++ drop (length r₁ - at) (drop at r₁)) in
     let s₁ = part-stored l p₁ header_length records (omega arith) c.write_names-a.ensures.part_after in
-    let k₁ : length r₁ ≡ length l = ap length s₁ ∙ length-sets l header_length records in
     let s₂ = part-stored r₁ p₂ at (atom_bytes (marked_from 1 atoms)) (omega arith) c.write_atoms-b.ensures.part_after in
-    table-stored l r₁ r₂ c.write_header.new.room names times atoms write-names.result write-atoms.result c.requires.writer_rooms.room-long c.write_names-a.ensures.value.1 c.write_atoms-b.ensures.value.1 c.write_names-a.ensures.value.0 c.write_atoms-b.ensures.value.0 s₁ s₂ write-header.ensures
+    table-stored l r₁ r₂ c.write_header.new.room names times atoms write-names.result write-atoms.result c.requires.writer_rooms.room-long
+        c.write_names-a.ensures.value.1 c.write_atoms-b.ensures.value.1 c.write_names-a.ensures.value.0 c.write_atoms-b.ensures.value.0 s₁ s₂
+        write-header.ensures

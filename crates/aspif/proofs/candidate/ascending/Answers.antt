@@ -16,30 +16,38 @@ pub bounds-x-i : goal.bounds-x-i
 bounds-x-i c = omega (arith, above_bounds _ _ _ (sym (ap as_atom c.in-Got.is) ∙ c.atom_above-a.ensures), c.loop-low.invariant.places)
 
 pub returns-in_default-z-clause-x_after : goal.returns-in_default-z-clause-x_after
-returns-in_default-z-clause-x_after c = marking_open c.loop-low.invariant c.loop-low-test.true (sym (ap as_atom c.in-Got.is) ∙ c.atom_above-a.ensures) (sym (ap as_passed c.in_default-b.is) ∙ c.byte-b.ensures) (sym c.refusal-in_default-z.ensures ∙ c.ending-z.ensures)
+returns-in_default-z-clause-x_after c = marking_open c.loop-low.invariant c.loop-low-test.true
+    (sym (ap as_atom c.in-Got.is) ∙ c.atom_above-a.ensures) (sym (ap as_passed c.in_default-b.is) ∙ c.byte-b.ensures)
+    (sym c.refusal-in_default-z.ensures ∙ c.ending-z.ensures)
 
 pub returns-in_default-b-clause-x_after : goal.returns-in_default-b-clause-x_after
-returns-in_default-b-clause-x_after c = let loop = c.loop-low in
+returns-in_default-b-clause-x_after c =
+    let loop = c.loop-low in
     let loop-test = c.loop-low-test in
     let atom-above = c.atom_above-a in
     let byte = c.byte-b in
-    let read = sym (ap as_atom c.in-Got.is) ∙ atom-above.ensures in marking_last loop.invariant loop-test.true read (sym (ap as_passed c.in_default-b.is) ∙ byte.ensures) (sym (ap as_passed c.in-Got-z.is) ∙ c.ending-z.ensures)
+    let read = sym (ap as_atom c.in-Got.is) ∙ atom-above.ensures in
+    marking_last loop.invariant loop-test.true read (sym (ap as_passed c.in_default-b.is) ∙ byte.ensures)
+        (sym (ap as_passed c.in-Got-z.is) ∙ c.ending-z.ensures)
 
 pub returns-in_default-b-clause-marked_to : goal.returns-in_default-b-clause-marked_to
-returns-in_default-b-clause-marked_to c = let loop = c.loop-low in
+returns-in_default-b-clause-marked_to c =
+    let loop = c.loop-low in
     let loop-test = c.loop-low-test in
     let atom-above = c.atom_above-a in
-    let byte = c.byte-b in
-    let read = sym (ap as_atom c.in-Got.is) ∙ atom-above.ensures in marking_above loop.invariant loop-test.true read
+    let read = sym (ap as_atom c.in-Got.is) ∙ atom-above.ensures in
+    marking_above loop.invariant loop-test.true read
 
 pub loop-low-smaller : goal.loop-low-smaller
 loop-low-smaller c = omega (arith, above_bounds _ _ _ (sym (ap as_atom c.in-Got.is) ∙ c.atom_above-a.ensures))
 
 pub loop-low-preserved : goal.loop-low-preserved
-loop-low-preserved c = let loop = c.loop-low in
+loop-low-preserved c =
+    let loop = c.loop-low in
     let loop-test = c.loop-low-test in
     let atom-above = c.atom_above-a in
-    marking_more loop.invariant loop-test.true (sym (ap as_atom c.in-Got.is) ∙ atom-above.ensures) (sym (ap as_passed c.in-Got-b.is) ∙ c.byte-b.ensures)
+    marking_more loop.invariant loop-test.true (sym (ap as_atom c.in-Got.is) ∙ atom-above.ensures)
+        (sym (ap as_passed c.in-Got-b.is) ∙ c.byte-b.ensures)
 
 pub returns-clause-x_after : goal.returns-clause-x_after
 returns-clause-x_after c = rw c.seven.ensures (marking_out c.loop-low.invariant c.loop-low-test.false)

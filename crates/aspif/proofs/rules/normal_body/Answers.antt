@@ -8,5 +8,7 @@ use Rattle.aspif.proofs.rules.normal_body.Goals as goal
 
 pub returns-clause-tape_after : goal.returns-clause-tape_after
 unfolding normal_body
-returns-clause-tape_after c = let begin = c.begin-o1 in
-    let words = on_more _ _ _ (_ ∷ _ ∷ []) (on_start _ _) begin.ensures.0 begin.ensures.1 in c.literals.ensures.tape_after ∙ on_last _ _ _ _ _ _ _ words (λ ls. rw literals_forth)
+returns-clause-tape_after c =
+    let begin = c.begin-o1 in
+    let words = on_more _ _ _ (_ ∷ _ ∷ []) (on_start _ _) begin.ensures.0 begin.ensures.1 in
+    c.literals.ensures.tape_after ∙ on_last _ _ _ _ _ _ _ words (λ ls. rw literals_forth)

@@ -15,26 +15,32 @@ unfolding rule_line
 returns-in_default-clause-tape_after c = rw (← c.next_natural-a.ensures, c.refusal.ensures) (on_fault _ _ _ _ _)
 
 pub begin-o1-requires : goal.begin-o1-requires
-begin-o1-requires c = let ea = rw c.in-Got.is at c.next_natural-a.ensures in
+begin-o1-requires c =
+    let ea = rw c.in-Got.is at c.next_natural-a.ensures in
     let fa = reads-ends (lit< tt) (next_natural-reads _ _ by_grammar _ _) _ _ ea in
     omega arith
 
 pub heads-h-requires : goal.heads-h-requires
-heads-h-requires c = let ea = rw c.in-Got.is at c.next_natural-a.ensures in
+heads-h-requires c =
+    let ea = rw c.in-Got.is at c.next_natural-a.ensures in
     let fa = reads-ends (lit< tt) (next_natural-reads _ _ by_grammar _ _) _ _ ea in
     (omega arith, rw c.begin-o1.auto.tape (omega arith))
 
 pub returns-in_default-h-clause-tape_after : goal.returns-in_default-h-clause-tape_after
 unfolding rule_line
-returns-in_default-h-clause-tape_after c = let next-natural = c.next_natural-a in
-    let qh = stopped listed _ _ _ (rw c.in_default-h.is at c.heads-h.ensures.tape_after) in rw (c.in_default-h.is, ← next-natural.ensures, c.in-Got.is, qh) (on_fault _ _ _ _ _)
+returns-in_default-h-clause-tape_after c =
+    let next-natural = c.next_natural-a in
+    let qh = stopped listed _ _ _ (rw c.in_default-h.is at c.heads-h.ensures.tape_after) in
+    rw (c.in_default-h.is, ← next-natural.ensures, c.in-Got.is, qh) (on_fault _ _ _ _ _)
 
 pub returns-clause-tape_after : goal.returns-clause-tape_after
 unfolding rule_line
-returns-clause-tape_after c = let next-natural = c.next_natural-a in
+returns-clause-tape_after c =
+    let next-natural = c.next_natural-a in
     let begin = c.begin-o1 in
     let wh = wrote listed _ _ _ (rw c.in-Got-h.is at c.heads-h.ensures.tape_after) in
     let ea = rw c.in-Got.is at next-natural.ensures in
-    let hw = head_forth _ wh.value (reads-ends (lit< tt) (next_natural-reads _ _ by_grammar _ _) _ _ ea).0 (heads-few _ _ _ _ _ (sym wh.is)) in rw (← next-natural.ensures, c.in-Got.is, wh.is) (c.body.ensures.tape_after ∙ on_last _ _ _ _ _ _ _
+    let hw = head_forth _ wh.value (reads-ends (lit< tt) (next_natural-reads _ _ by_grammar _ _) _ _ ea).0 (heads-few _ _ _ _ _ (sym wh.is)) in
+    rw (← next-natural.ensures, c.in-Got.is, wh.is) (c.body.ensures.tape_after ∙ on_last _ _ _ _ _ _ _
     (on_more _ _ _ (listed wh.value) (on_more _ _ _ (_ ∷ _ ∷ []) (on_start _ _) begin.ensures.0 begin.ensures.1) wh.tape wh.next)
     (λ b. rw hw))

@@ -15,24 +15,28 @@ returns-in_default-clause-tape_after c = rw (← c.next_term-a.ensures, c.refusa
 
 pub returns-in_default-b-clause-tape_after : goal.returns-in_default-b-clause-tape_after
 unfolding compound_line
-returns-in_default-b-clause-tape_after c = rw (← c.next_term-a.ensures, c.in-Got.is, ← c.next_integer-b.ensures, c.refusal-in_default-b.ensures) (on_fault _ _ _ _ _)
+returns-in_default-b-clause-tape_after c = rw (← c.next_term-a.ensures, c.in-Got.is, ← c.next_integer-b.ensures, c.refusal-in_default-b.ensures)
+    (on_fault _ _ _ _ _)
 
 pub begin_term-o1-requires : goal.begin_term-o1-requires
-begin_term-o1-requires c = let ea = rw c.in-Got.is at c.next_term-a.ensures in
+begin_term-o1-requires c =
+    let ea = rw c.in-Got.is at c.next_term-a.ensures in
     let fa = reads-ends (lit< tt) (next_term-reads _ _) _ _ ea in
     let eb = rw c.in-Got-b.is at c.next_integer-b.ensures in
     let fb = reads-ends (lit< tt) (next_integer-reads _ _ _ _) _ _ eb in
     omega arith
 
 pub put-o2-requires : goal.put-o2-requires
-put-o2-requires c = let ea = rw c.in-Got.is at c.next_term-a.ensures in
+put-o2-requires c =
+    let ea = rw c.in-Got.is at c.next_term-a.ensures in
     let fa = reads-ends (lit< tt) (next_term-reads _ _) _ _ ea in
     let eb = rw c.in-Got-b.is at c.next_integer-b.ensures in
     let fb = reads-ends (lit< tt) (next_integer-reads _ _ _ _) _ _ eb in
     rw c.begin_term-o1.auto.tape (omega arith)
 
 pub counted-requires : goal.counted-requires
-counted-requires c = let pre = c.requires in
+counted-requires c =
+    let pre = c.requires in
     let next-term = c.next_term-a in
     let next-integer = c.next_integer-b in
     let begin-term = c.begin_term-o1 in
@@ -48,10 +52,12 @@ counted-requires c = let pre = c.requires in
 
 pub returns-clause-tape_after : goal.returns-clause-tape_after
 unfolding compound_line
-returns-clause-tape_after c = let next-term = c.next_term-a in
+returns-clause-tape_after c =
+    let next-term = c.next_term-a in
     let next-integer = c.next_integer-b in
     let begin-term = c.begin_term-o1 in
     let put = c.put-o2 in
-    let eb = rw c.in-Got-b.is at next-integer.ensures in rw (← next-term.ensures, c.in-Got.is, ← next-integer.ensures, c.in-Got-b.is) (c.counted.ensures.tape_after ∙ on_last _ _ _ _ _ _ _
+    let eb = rw c.in-Got-b.is at next-integer.ensures in
+    rw (← next-term.ensures, c.in-Got.is, ← next-integer.ensures, c.in-Got-b.is) (c.counted.ensures.tape_after ∙ on_last _ _ _ _ _ _ _
     (on_more _ _ _ (_ ∷ []) (on_more _ _ _ (_ ∷ _ ∷ []) (on_start _ _) begin-term.ensures.0 begin-term.ensures.1) put.ensures.0 put.ensures.1)
     (λ us. rw (integer_forth _ _ _ _ _ _ eb)))

@@ -14,24 +14,28 @@ returns-in_default-clause-tape_after c = rw (← c.next_atom-a.ensures, c.refusa
 
 pub returns-in_default-b-clause-tape_after : goal.returns-in_default-b-clause-tape_after
 unfolding front
-returns-in_default-b-clause-tape_after c = rw (← c.next_atom-a.ensures, c.in-Got.is, ← c.next_term-b.ensures, c.refusal-in_default-b.ensures) (on_fault _ _ _ _ _)
+returns-in_default-b-clause-tape_after c = rw (← c.next_atom-a.ensures, c.in-Got.is, ← c.next_term-b.ensures, c.refusal-in_default-b.ensures)
+    (on_fault _ _ _ _ _)
 
 pub begin_atom-o1-requires : goal.begin_atom-o1-requires
-begin_atom-o1-requires c = let ea = rw c.in-Got.is at c.next_atom-a.ensures in
+begin_atom-o1-requires c =
+    let ea = rw c.in-Got.is at c.next_atom-a.ensures in
     let fa = reads-ends (lit< tt) (next_atom-reads _ by_carried _ _) _ _ ea in
     let eb = rw c.in-Got-b.is at c.next_term-b.ensures in
     let fb = reads-ends (lit< tt) (next_term-reads _ _) _ _ eb in
     omega arith
 
 pub put_term-o2-requires : goal.put_term-o2-requires
-put_term-o2-requires c = let ea = rw c.in-Got.is at c.next_atom-a.ensures in
+put_term-o2-requires c =
+    let ea = rw c.in-Got.is at c.next_atom-a.ensures in
     let fa = reads-ends (lit< tt) (next_atom-reads _ by_carried _ _) _ _ ea in
     let eb = rw c.in-Got-b.is at c.next_term-b.ensures in
     let fb = reads-ends (lit< tt) (next_term-reads _ _) _ _ eb in
     rw c.begin_atom-o1.auto.tape (omega arith)
 
 pub counted-requires : goal.counted-requires
-counted-requires c = let ea = rw c.in-Got.is at c.next_atom-a.ensures in
+counted-requires c =
+    let ea = rw c.in-Got.is at c.next_atom-a.ensures in
     let fa = reads-ends (lit< tt) (next_atom-reads _ by_carried _ _) _ _ ea in
     let eb = rw c.in-Got-b.is at c.next_term-b.ensures in
     let fb = reads-ends (lit< tt) (next_term-reads _ _) _ _ eb in
@@ -39,9 +43,12 @@ counted-requires c = let ea = rw c.in-Got.is at c.next_atom-a.ensures in
 
 pub returns-clause-tape_after : goal.returns-clause-tape_after
 unfolding front
-returns-clause-tape_after c = let next-atom = c.next_atom-a in
+returns-clause-tape_after c =
+    let next-atom = c.next_atom-a in
     let next-term = c.next_term-b in
     let begin-atom = c.begin_atom-o1 in
-    let put-term = c.put_term-o2 in rw (← next-atom.ensures, c.in-Got.is, ← next-term.ensures, c.in-Got-b.is) (c.counted.ensures.tape_after ∙ on_last _ _ _ _ _ _ _
-    (on_more _ _ _ (_ ∷ []) (on_more _ _ _ (_ ∷ _ ∷ []) (on_start _ _) begin-atom.ensures.0 begin-atom.ensures.1) put-term.ensures.0 put-term.ensures.1)
+    let put-term = c.put_term-o2 in
+    rw (← next-atom.ensures, c.in-Got.is, ← next-term.ensures, c.in-Got-b.is) (c.counted.ensures.tape_after ∙ on_last _ _ _ _ _ _ _
+    (on_more _ _ _ (_ ∷ []) (on_more _ _ _ (_ ∷ _ ∷ []) (on_start _ _) begin-atom.ensures.0 begin-atom.ensures.1) put-term.ensures.0
+        put-term.ensures.1)
     (λ vs. refl))

@@ -12,12 +12,14 @@ unfolding theory_part on_tape
 returns-in_default-clause-tape_after c = rw (← c.next_natural-a.ensures, c.refusal.ensures)
 
 pub overflow_add-place : goal.overflow_add-place
-overflow_add-place c = let e = rw c.in-Got.is at c.next_natural-a.ensures in
+overflow_add-place c =
+    let e = rw c.in-Got.is at c.next_natural-a.ensures in
     let f = reads-ends (lit< tt) (next_natural-reads _ _ by_grammar _ _) _ _ e in
     omega arith
 
 pub theory_of-requires : goal.theory_of-requires
-theory_of-requires c = let e = rw c.in-Got.is at c.next_natural-a.ensures in
+theory_of-requires c =
+    let e = rw c.in-Got.is at c.next_natural-a.ensures in
     let f = reads-ends (lit< tt) (next_natural-reads _ _ by_grammar _ _) _ _ e in
     (omega arith, search rules)
 

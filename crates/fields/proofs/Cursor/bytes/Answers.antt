@@ -7,14 +7,16 @@ pub byte-a-requires : goal.byte-a-requires
 byte-a-requires c = (positive_more _ _ c.loop-i-test.true c.loop-i.invariant.1).0
 
 pub returns-in_default : goal.returns-in_default
-returns-in_default c = let args = c.args in
+returns-in_default c =
+    let args = c.args in
     let loop = c.loop-i in
     let loop-test = c.loop-i-test in
     let b = rw c.in_default.is at c.byte-a.ensures in
     rw c.in_default.is (word_stop args.word.now loop.i _ _ _ _ loop-test.true b ∙ loop.invariant.0)
 
 pub loop-i-preserved : goal.loop-i-preserved
-loop-i-preserved c = let args = c.args in
+loop-i-preserved c =
+    let args = c.args in
     let loop = c.loop-i in
     let loop-test = c.loop-i-test in
     let b = rw c.in-Got.is at c.byte-a.ensures in

@@ -16,7 +16,10 @@ unfolding char
 returns-then-b-eq-FEED c = rw (← c.peek-b.ensures, ne_eqb _ _ c.if-b-eq0.false, eq-eqb _ _ c.if-b-eq-FEED.true)
 
 pub overflow_add-from : goal.overflow_add-from
-overflow_add-from c = let p : 0 < c.peek-b.result = omega arith in let h = there _ _ _ p (sym c.peek-b.ensures) in omega arith
+overflow_add-from c =
+    let p : 0 < c.peek-b.result = omega arith in
+    let h = there _ _ _ p (sym c.peek-b.ensures) in
+    omega arith
 
 pub returns : goal.returns
 unfolding char

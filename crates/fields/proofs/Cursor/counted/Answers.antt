@@ -11,7 +11,8 @@ unfolding counted on_tape
 returns-in_default-clause-tape_after c = rw (← c.next_natural-a.ensures, c.refusal.ensures)
 
 pub listed-requires : goal.listed-requires
-listed-requires c = let n = rw c.in-Got.is at c.next_natural-a.ensures in
+listed-requires c =
+    let n = rw c.in-Got.is at c.next_natural-a.ensures in
     let h = next_natural-within _ _ _ _ _ _ n in
     (omega arith, omega arith, search rules)
 

@@ -17,8 +17,10 @@ ahead c =
     (omega arith, h.2)
 
 pub returns-in_default-clause-tape_after : goal.returns-in_default-clause-tape_after
-returns-in_default-clause-tape_after c = let loop = c.loop-left in
-    let loop-test = c.loop-left-test in items_stop _ _ _ _ _ _ _ _ loop-test.true (sym c.refusal.ensures ∙ c.item-a.ensures) ∙ loop.invariant.0
+returns-in_default-clause-tape_after c =
+    let loop = c.loop-left in
+    let loop-test = c.loop-left-test in
+    items_stop _ _ _ _ _ _ _ _ loop-test.true (sym c.refusal.ensures ∙ c.item-a.ensures) ∙ loop.invariant.0
 
 pub offset_bounds-tape-o : goal.offset_bounds-tape-o
 offset_bounds-tape-o c = omega (arith, ahead c)
@@ -30,7 +32,8 @@ pub overflow_add-o : goal.overflow_add-o
 overflow_add-o c = omega (arith, ahead c)
 
 pub loop-left-preserved : goal.loop-left-preserved
-loop-left-preserved c = (items_more _ _ _ _ _ _ _ _ c.loop-left-test.true (sym (ap as_word c.in-Got.is) ∙ c.item-a.ensures) ∙ c.loop-left.invariant.0, omega (arith, ahead c), simp length-set (search rules))
+loop-left-preserved c = (items_more _ _ _ _ _ _ _ _ c.loop-left-test.true (sym (ap as_word c.in-Got.is) ∙ c.item-a.ensures) ∙
+    c.loop-left.invariant.0, omega (arith, ahead c), simp length-set (search rules))
 
 pub returns-clause-tape_after : goal.returns-clause-tape_after
 returns-clause-tape_after c = items-none _ _ _ _ _ _ c.loop-left-test.false ∙ c.loop-left.invariant.0

@@ -8,14 +8,18 @@ use Rattle.fields.proofs.Naturals.{there, return_there}
 use Rattle.fields.proofs.Cursor.line_end.Goals as goal
 
 pub overflow_add-result : goal.overflow_add-result
-overflow_add-result c = let h = there feed _ _ (lit< tt) (sym c.peek.ensures ∙ c.if-peek-eq-FEED.true) in omega arith
+overflow_add-result c =
+    let h = there feed _ _ (lit< tt) (sym c.peek.ensures ∙ c.if-peek-eq-FEED.true) in
+    omega arith
 
 pub returns-then-peek-eq-FEED : goal.returns-then-peek-eq-FEED
 unfolding line_end
 returns-then-peek-eq-FEED c = rw (← c.peek.ensures, eq-eqb _ _ c.if-peek-eq-FEED.true)
 
 pub overflow_add-result-then-return_feed : goal.overflow_add-result-then-return_feed
-overflow_add-result-then-return_feed c = let h = return_there _ _ c.return_feed.ensures c.if-return_feed.true in omega arith
+overflow_add-result-then-return_feed c =
+    let h = return_there _ _ c.return_feed.ensures c.if-return_feed.true in
+    omega arith
 
 pub returns-then-return_feed : goal.returns-then-return_feed
 unfolding line_end

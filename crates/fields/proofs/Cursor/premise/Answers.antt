@@ -14,11 +14,13 @@ unfolding premise
 returns-in_default-b c = rw (← c.next_literal-a.ensures, c.in-Got.is, ← c.next_weight-b.ensures, c.in_default-b.is)
 
 pub overflow_mul-weight : goal.overflow_mul-weight
-overflow_mul-weight c = let eb = rw c.in-Got-b.is at c.next_weight-b.ensures in
+overflow_mul-weight c =
+    let eb = rw c.in-Got-b.is at c.next_weight-b.ensures in
     omega (arith, (reads-ends (lit< tt) (next_weight-reads _ _) _ _ eb).0.1)
 
 pub overflow_add-code : goal.overflow_add-code
-overflow_add-code c = let ea = rw c.in-Got.is at c.next_literal-a.ensures in
+overflow_add-code c =
+    let ea = rw c.in-Got.is at c.next_literal-a.ensures in
     let eb = rw c.in-Got-b.is at c.next_weight-b.ensures in
     omega (arith, (reads-ends (lit< tt) (next_literal-reads _ _) _ _ ea).0.1, (reads-ends (lit< tt) (next_weight-reads _ _) _ _ eb).0.1)
 

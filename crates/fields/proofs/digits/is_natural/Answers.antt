@@ -8,7 +8,8 @@ pub returns-then-end-at : goal.returns-then-end-at
 returns-then-end-at c = sym (natural_undigit _ _ _ c.requires c.if-end-at.true)
 
 pub returns-then-peek-eq-ZERO_DIGIT : goal.returns-then-peek-eq-ZERO_DIGIT
-returns-then-peek-eq-ZERO_DIGIT c = sym (natural_led _ _ _ c.requires c.if-end-at.false c.if-second-end.true (sym c.peek.ensures ∙ c.if-peek-eq-ZERO_DIGIT.true))
+returns-then-peek-eq-ZERO_DIGIT c = sym (natural_led _ _ _ c.requires c.if-end-at.false c.if-second-end.true
+    (sym c.peek.ensures ∙ c.if-peek-eq-ZERO_DIGIT.true))
 
 pub returns : goal.returns
 returns c =

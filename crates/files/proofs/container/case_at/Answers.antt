@@ -8,7 +8,12 @@ use Rattle.files.proofs.container.case_at.Goals as goal
 
 pub returns-in_default : goal.returns-in_default
 unfolding case_at
-returns-in_default c = rw (← name_end c.args.s.now c.args.at c.start-from.ensures c.ahead-c.ensures c.past_field-name.ensures, ← c.natural_then-a.ensures, c.in_default.is)
+returns-in_default c = rw (
+  ← name_end c.args.s.now c.args.at c.start-from.ensures c.ahead-c.ensures c.past_field-name.ensures,
+  ←
+      c.natural_then-a.ensures,
+  c.in_default.is,
+)
 
 pub ahead-end-requires : goal.ahead-end-requires
 ahead-end-requires c = omega (arith, length_in _ _ (sym (ap as_word c.in-Got.is) ∙ c.natural_then-a.ensures))

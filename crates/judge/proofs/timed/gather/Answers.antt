@@ -9,7 +9,9 @@ pub loop-i-init : goal.loop-i-init
 loop-i-init c = going_start _ _ _ _ _ _ c.requires
 
 pub loop-i-preserved-then-not-holds : goal.loop-i-preserved-then-not-holds
-loop-i-preserved-then-not-holds c = going_pass _ _ _ _ _ _ _ _ _ _ _ _ c.loop-i.invariant c.loop-i-test.true (sym c.holds.ensures ∙ not-true _ c.if-not-holds.true-raw)
+loop-i-preserved-then-not-holds c = going_pass _ _ _ _ _ _ _ _ _ _ _ _ c.loop-i.invariant c.loop-i-test.true
+    (sym c.holds.ensures ∙ c.if-not-holds.true)
 
 pub loop-i-preserved : goal.loop-i-preserved
-loop-i-preserved c = going_take _ _ _ _ _ _ _ _ _ _ _ _ c.loop-i.invariant c.loop-i-test.true (sym c.holds.ensures ∙ not-false _ c.if-not-holds.false-raw) _ (search rules)
+loop-i-preserved c = going_take _ _ _ _ _ _ _ _ _ _ _ _ c.loop-i.invariant c.loop-i-test.true (sym c.holds.ensures ∙ c.if-not-holds.false) _
+    (search rules)

@@ -9,4 +9,5 @@ pub returns-then-kind-ne-NUMBER : goal.returns-then-kind-ne-NUMBER
 returns-then-kind-ne-NUMBER c = against-not _ _ _ _ c.term_entry-e.ensures c.if-e-eq0.false _ c.word_at-kind.ensures.0 c.if-kind-ne-NUMBER.true
 
 pub returns : goal.returns
-returns c = against-is _ _ _ _ c.term_entry-e.ensures c.if-e-eq0.false _ c.word_at-kind.ensures.0 _ _ c.if-kind-ne-NUMBER.false c.word_at-w.ensures.0 c.word_at-w.ensures.1 c.negated.ensures
+returns c = against-is _ _ _ _ c.term_entry-e.ensures c.if-e-eq0.false _ c.word_at-kind.ensures.0 _ _ c.if-kind-ne-NUMBER.false
+    c.word_at-w.ensures.0 c.word_at-w.ensures.1 c.negated.ensures

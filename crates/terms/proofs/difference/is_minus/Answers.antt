@@ -5,7 +5,8 @@ use Rattle.terms.proofs.Reading.{minus_other, minus-term}
 use Rattle.terms.proofs.difference.is_minus.Goals as goal
 
 pub returns-then-is_term : goal.returns-then-is_term
-returns-then-is_term c = let args = c.args in
+returns-then-is_term c =
+    let args = c.args in
     c.named.ensures ∙ minus-term (look_in args.tape.now args.terms.now) args.t _ c.is_term.ensures c.if-is_term.true
 
 pub returns : goal.returns

@@ -10,4 +10,5 @@ pub returns-then-kind-ne-STRING : goal.returns-then-kind-ne-STRING
 returns-then-kind-ne-STRING c = string-not _ _ _ _ c.term_entry-e.ensures c.if-e-eq0.false _ c.word_at-kind.ensures.0 _ c.if-kind-ne-STRING.true
 
 pub returns : goal.returns
-returns c = c.same.ensures ∙ string-is _ _ _ _ c.term_entry-e.ensures c.if-e-eq0.false _ c.word_at-kind.ensures.0 _ _ c.if-kind-ne-STRING.false c.word_at-n.ensures.0
+returns c = c.same.ensures ∙ string-is _ _ _ _ c.term_entry-e.ensures c.if-e-eq0.false _ c.word_at-kind.ensures.0 _ _ c.if-kind-ne-STRING.false
+    c.word_at-n.ensures.0

@@ -9,7 +9,7 @@ pub returns-then-not-minus_of : goal.returns-then-not-minus_of
 returns-then-not-minus_of c = pair-not _ _ _ _ c.term_entry-e.ensures _ c.minus_of.ensures c.if-not-minus_of.true
 
 pub overflow_sub-q : goal.overflow_sub-q
-overflow_sub-q c = omega (arith, minus_there _ _ _ _ (sym c.minus_of.ensures ∙ not-false _ c.if-not-minus_of.false-raw))
+overflow_sub-q c = omega (arith, minus_there _ _ _ _ (sym c.minus_of.ensures ∙ c.if-not-minus_of.false))
 
 pub returns : goal.returns
 returns c = pair_is _ _ _ _ c.term_entry-e.ensures _ _ _ c.minus_of.ensures c.if-not-minus_of.false c.term_at-x.ensures c.term_at-y.ensures
