@@ -14,8 +14,11 @@ pub returns-in-Quiet : goal.returns-in-Quiet
 returns-in-Quiet c = quiet _ _ _ _ _ _ (rounded _ _ _ _ _ _ _ _ _ Quiet c.loop-r.invariant.1 (rw c.in-Quiet.is at c.round-last.ensures))
 
 pub loop-r-preserved : goal.loop-r-preserved
-loop-r-preserved c = (omega arith, rw c.in_default.is (next _ _ _ _ _ _ _
-    (rounded _ _ _ _ _ _ _ _ _ (Name _) c.loop-r.invariant.1 (rw c.in_default.is at c.round-last.ensures))))
+loop-r-preserved c = (
+  omega arith,
+  rw c.in_default.is (next _ _ _ _ _ _ _
+      (rounded _ _ _ _ _ _ _ _ _ (Name _) c.loop-r.invariant.1 (rw c.in_default.is at c.round-last.ensures))),
+)
 
 pub returns : goal.returns
 returns c = stuck _ _ _ _ _ _ _ c.loop-r.invariant.1 (omega arith)

@@ -11,8 +11,11 @@ pub overflow_cast-index : goal.overflow_cast-index
 overflow_cast-index c = record { fits = omega (arith, here c.loop-left.invariant c.loop-left-test.true, c.requires.tape_len_bound) }
 
 pub bounds-index-m : goal.bounds-index-m
-bounds-index-m c = omega (arith, room c.loop-left.invariant c.loop-left-test.true c.word_at.ensures.0 c.if-word_at-eq-RULE.true,
-    c.loop-left.invariant.long)
+bounds-index-m c = omega (
+  arith,
+  room c.loop-left.invariant c.loop-left-test.true c.word_at.ensures.0 c.if-word_at-eq-RULE.true,
+  c.loop-left.invariant.long,
+)
 
 pub after_at-p-requires : goal.after_at-p-requires
 after_at-p-requires c = omega (arith, here c.loop-left.invariant c.loop-left-test.true)

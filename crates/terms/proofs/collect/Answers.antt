@@ -24,7 +24,7 @@ returns-in_default-clause-ks_after c =
     let s = c.store-r in
     let told = c.in_default.is in
     at_refusal c.loop-left-test.true c.loop-left.invariant.0 c.take_line-s.ensures c.store-r.new.atoms c.store-r.new.xs c.store-r.new.ys
-        c.store-r.new.ks _ s.ensures _ told
+    c.store-r.new.ks _ s.ensures _ told
 
 pub after_at-p-requires : goal.after_at-p-requires
 after_at-p-requires c = ahead_starts _ _ _ c.loop-left.invariant.0.ahead
@@ -33,11 +33,16 @@ pub loop-left-preserved : goal.loop-left-preserved
 loop-left-preserved c =
     let s = c.store-r in
     let t = c.take_line-s in
-    let i = c.loop-left.invariant in
-    (at_next c.loop-left-test.true i.0 t.ensures c.store-r.new.atoms c.store-r.new.xs c.store-r.new.ys c.store-r.new.ks _ s.ensures _ _
-        c.in-Good.is c.after_at-p.ensures c.take_line-s.auto.terms c.take_line-s.auto.elements c.take_line-s.auto.seen, record
-        { of_atoms = c.store-r.auto.atoms ∙ i.1.of_atoms; of_xs = c.store-r.auto.xs ∙ i.1.of_xs; of_ys = c.store-r.auto.ys ∙ i.1.of_ys;
-        of_ks = c.store-r.auto.ks ∙ i.1.of_ks })
+    let i = c.loop-left.invariant in (
+      at_next c.loop-left-test.true i.0 t.ensures c.store-r.new.atoms c.store-r.new.xs c.store-r.new.ys c.store-r.new.ks _ s.ensures _ _
+          c.in-Good.is c.after_at-p.ensures c.take_line-s.auto.terms c.take_line-s.auto.elements c.take_line-s.auto.seen,
+      record {
+        of_atoms = c.store-r.auto.atoms ∙ i.1.of_atoms;
+        of_xs = c.store-r.auto.xs ∙ i.1.of_xs;
+        of_ys = c.store-r.auto.ys ∙ i.1.of_ys;
+        of_ks = c.store-r.auto.ks ∙ i.1.of_ks;
+      },
+    )
 
 pub returns-clause-ks_after : goal.returns-clause-ks_after
 returns-clause-ks_after c = at_last _ _ _ _ _ _ _ _ _ _ _ _ _ c.loop-left-test.false c.loop-left.invariant.0

@@ -14,8 +14,11 @@ returns-then-atom-gt-LAST_ATOM c = atoms_high _ _ _ _ _ c.loop-left-test.true c.
     c.if-atom-gt-LAST_ATOM.true ∙ c.loop-left.invariant.0
 
 pub loop-left-preserved : goal.loop-left-preserved
-loop-left-preserved c = (atoms_on _ _ _ _ _ c.loop-left-test.true c.word_at-atom.ensures c.if-atom-low.false c.if-atom-gt-LAST_ATOM.false ∙
-    c.loop-left.invariant.0, search rules)
+loop-left-preserved c = (
+  atoms_on _ _ _ _ _ c.loop-left-test.true c.word_at-atom.ensures c.if-atom-low.false c.if-atom-gt-LAST_ATOM.false ∙
+      c.loop-left.invariant.0,
+  search rules,
+)
 
 pub returns : goal.returns
 unfolding atoms_left

@@ -20,7 +20,7 @@ returns-then-second-at c =
     let word-at2 = c.word_at-m in
     let word-at3 = c.word_at-first in
     wrong_second _ _ _ _ _ word_at.ensures word-at2.ensures word-at3.ensures c.word_at-second.ensures c.if-table-end.false
-        c.if-first-ne-HEADER.false c.if-second-at.true
+    c.if-first-ne-HEADER.false c.if-second-at.true
 
 pub returns-then-records_within : goal.returns-then-records_within
 unfolding records_left atoms_left
@@ -44,4 +44,4 @@ returns c =
     let if2 = c.if-table-end in
     rw (← c.records_within.ensures, c.if-records_within.false) at
     (right_shape _ _ _ _ _ word_at.ensures word-at2.ensures word-at3.ensures word-at4.ensures if2.false c.if-first-ne-HEADER.false
-        c.if-second-at.false)
+    c.if-second-at.false)

@@ -21,15 +21,17 @@ returns-then-time-gt-LATEST c =
     let loop-test = c.loop-left-test in
     let word_at = c.word_at-name in
     records-late _ _ _ _ _ _ loop-test.true word_at.ensures c.word_at-time.ensures c.if-name-low.false c.if-name-gt-LAST_TERM.false
-        c.if-time-gt-LATEST.true ∙ loop.invariant.0
+    c.if-time-gt-LATEST.true ∙ loop.invariant.0
 
 pub loop-left-preserved : goal.loop-left-preserved
 loop-left-preserved c =
     let loop = c.loop-left in
     let loop-test = c.loop-left-test in
-    let word_at = c.word_at-name in
-    (records_on _ _ _ _ _ _ loop-test.true word_at.ensures c.word_at-time.ensures c.if-name-low.false c.if-name-gt-LAST_TERM.false
-        c.if-time-gt-LATEST.false ∙ loop.invariant.0, search rules)
+    let word_at = c.word_at-name in (
+      records_on _ _ _ _ _ _ loop-test.true word_at.ensures c.word_at-time.ensures c.if-name-low.false c.if-name-gt-LAST_TERM.false
+          c.if-time-gt-LATEST.false ∙ loop.invariant.0,
+      search rules,
+    )
 
 pub returns : goal.returns
 unfolding records_left

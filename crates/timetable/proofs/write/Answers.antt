@@ -38,5 +38,5 @@ returns c =
     let s₁ = part-stored l p₁ header_length records (omega arith) c.write_names-a.ensures.part_after in
     let s₂ = part-stored r₁ p₂ at (atom_bytes (marked_from 1 atoms)) (omega arith) c.write_atoms-b.ensures.part_after in
     table-stored l r₁ r₂ c.write_header.new.room names times atoms write-names.result write-atoms.result c.requires.writer_rooms.room-long
-        c.write_names-a.ensures.value.1 c.write_atoms-b.ensures.value.1 c.write_names-a.ensures.value.0 c.write_atoms-b.ensures.value.0 s₁ s₂
-        write-header.ensures
+    c.write_names-a.ensures.value.1 c.write_atoms-b.ensures.value.1 c.write_names-a.ensures.value.0 c.write_atoms-b.ensures.value.0 s₁ s₂
+    write-header.ensures

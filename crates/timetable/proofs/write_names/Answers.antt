@@ -13,8 +13,7 @@ use Rattle.timetable.proofs.write_names.Goals as goal
 pub loop-i-preserved-then-names-here-ne1 : goal.loop-i-preserved-then-names-here-ne1
 loop-i-preserved-then-names-here-ne1 c =
     let here = c.loop-i-test.true in
-    let other = c.if-names-here-ne1.true in
-    (
+    let other = c.if-names-here-ne1.true in (
       records_pass _ _ _ _ _ here other ∙ c.loop-i.invariant.0,
       omega (arith, ap length (marked_pass c.args.names.now c.loop-i.i here other)),
       search rules,
@@ -27,8 +26,7 @@ pub loop-i-preserved : goal.loop-i-preserved
 loop-i-preserved c =
     let here = c.loop-i-test.true in
     let marked = c.if-names-here-ne1.false in
-    let put = c.put_record in
-    (
+    let put = c.put_record in (
       records-take _ _ _ _ _ _ here marked put.ensures ∙ c.loop-i.invariant.0,
       omega (arith, c.put_record.auto.room, ap length (marked-take c.args.names.now c.loop-i.i here marked)),
       omega (arith, c.put_record.auto.room),

@@ -28,7 +28,7 @@ returns-in_default-b-clause-x_after c =
     let byte = c.byte-b in
     let read = sym (ap as_atom c.in-Got.is) ∙ atom-above.ensures in
     marking_last loop.invariant loop-test.true read (sym (ap as_passed c.in_default-b.is) ∙ byte.ensures)
-        (sym (ap as_passed c.in-Got-z.is) ∙ c.ending-z.ensures)
+    (sym (ap as_passed c.in-Got-z.is) ∙ c.ending-z.ensures)
 
 pub returns-in_default-b-clause-marked_to : goal.returns-in_default-b-clause-marked_to
 returns-in_default-b-clause-marked_to c =
@@ -47,7 +47,7 @@ loop-low-preserved c =
     let loop-test = c.loop-low-test in
     let atom-above = c.atom_above-a in
     marking_more loop.invariant loop-test.true (sym (ap as_atom c.in-Got.is) ∙ atom-above.ensures)
-        (sym (ap as_passed c.in-Got-b.is) ∙ c.byte-b.ensures)
+    (sym (ap as_passed c.in-Got-b.is) ∙ c.byte-b.ensures)
 
 pub returns-clause-x_after : goal.returns-clause-x_after
 returns-clause-x_after c = rw c.seven.ensures (marking_out c.loop-low.invariant c.loop-low-test.false)

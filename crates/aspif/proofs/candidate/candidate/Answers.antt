@@ -20,4 +20,4 @@ returns-clause-x_after c =
     let z = c.start-c.ensures in
     let blank = c.requires in
     rw (marks-none _ blank.clear) (empty_good _ (sym (ap as_end c.in-Got.is) ∙ (rw z at c.line_end-a.ensures))
-        (sym (ap as_passed c.in-Got-b.is) ∙ (rw z at c.ending-b.ensures)))
+    (sym (ap as_passed c.in-Got-b.is) ∙ (rw z at c.ending-b.ensures)))

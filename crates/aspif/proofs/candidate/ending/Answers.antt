@@ -8,8 +8,13 @@ returns-in_default c = rw (c.seven.ensures, ← c.line_end-a.ensures, c.refusal-
 
 pub returns-in_default-b : goal.returns-in_default-b
 unfolding ending
-returns-in_default-b c = rw (c.seven-in_default-b.ensures, ← c.line_end-a.ensures, c.in-Got.is, ← c.text_end-b.ensures,
-    c.refusal-r-in_default-b.ensures)
+returns-in_default-b c = rw (
+  c.seven-in_default-b.ensures,
+  ← c.line_end-a.ensures,
+  c.in-Got.is,
+  ← c.text_end-b.ensures,
+  c.refusal-r-in_default-b.ensures,
+)
 
 pub returns : goal.returns
 unfolding ending

@@ -19,8 +19,14 @@ returns-then-look-eq-SPACE c = rw (← c.bytes-a.ensures, c.in-Got.is, ← c.loo
 
 pub returns-in_default-b : goal.returns-in_default-b
 unfolding first_line no_tag
-returns-in_default-b c = rw (← c.bytes-a.ensures, c.in-Got.is, ← c.look.ensures, ne_eqb _ _ c.if-look-eq-SPACE.false, ← c.line_end-b.ensures,
-    c.refusal-in_default-b.ensures)
+returns-in_default-b c = rw (
+  ← c.bytes-a.ensures,
+  c.in-Got.is,
+  ← c.look.ensures,
+  ne_eqb _ _ c.if-look-eq-SPACE.false,
+  ← c.line_end-b.ensures,
+  c.refusal-in_default-b.ensures,
+)
 
 pub returns : goal.returns
 unfolding first_line no_tag

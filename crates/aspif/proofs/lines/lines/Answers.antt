@@ -19,14 +19,14 @@ pub returns-in_default-clause-tape_after : goal.returns-in_default-clause-tape_a
 unfolding taped
 returns-in_default-clause-tape_after c =
     let f = reach_fault _ _ _ _ _ _ _ _ _ c.loop-left.invariant.0 _ _
-        (turn_stop _ _ _ _ _ _ c.loop-left-test.true (sym c.refusal.ensures ∙ c.natural-a.ensures)) in
+    (turn_stop _ _ _ _ _ _ c.loop-left-test.true (sym c.refusal.ensures ∙ c.natural-a.ensures)) in
     rw f
 
 pub returns-in_default-clause-result_after : goal.returns-in_default-clause-result_after
 unfolding taped
 returns-in_default-clause-result_after c =
     let f = reach_fault _ _ _ _ _ _ _ _ _ c.loop-left.invariant.0 _ _
-        (turn_stop _ _ _ _ _ _ c.loop-left-test.true (sym c.refusal.ensures ∙ c.natural-a.ensures)) in
+    (turn_stop _ _ _ _ _ _ c.loop-left-test.true (sym c.refusal.ensures ∙ c.natural-a.ensures)) in
     rw f
 
 pub returns-in_default-l-clause-tape_after : goal.returns-in_default-l-clause-tape_after
@@ -34,7 +34,7 @@ unfolding taped
 returns-in_default-l-clause-tape_after c =
     let e = rw c.in-Got.is at c.natural-a.ensures in
     let f = reach_fault _ _ _ _ _ _ _ _ _ c.loop-left.invariant.0 _ _
-        (last_stop _ _ _ _ _ _ _ _ c.loop-left-test.true e c.if-k-eq0.true (sym c.refusal-in_default-l.ensures ∙ c.last_line-l.ensures)) in
+    (last_stop _ _ _ _ _ _ _ _ c.loop-left-test.true e c.if-k-eq0.true (sym c.refusal-in_default-l.ensures ∙ c.last_line-l.ensures)) in
     rw f
 
 pub returns-in_default-l-clause-result_after : goal.returns-in_default-l-clause-result_after
@@ -42,7 +42,7 @@ unfolding taped
 returns-in_default-l-clause-result_after c =
     let e = rw c.in-Got.is at c.natural-a.ensures in
     let f = reach_fault _ _ _ _ _ _ _ _ _ c.loop-left.invariant.0 _ _
-        (last_stop _ _ _ _ _ _ _ _ c.loop-left-test.true e c.if-k-eq0.true (sym c.refusal-in_default-l.ensures ∙ c.last_line-l.ensures)) in
+    (last_stop _ _ _ _ _ _ _ _ c.loop-left-test.true e c.if-k-eq0.true (sym c.refusal-in_default-l.ensures ∙ c.last_line-l.ensures)) in
     rw f
 
 pub returns-then-k-eq0-clause-tape_after : goal.returns-then-k-eq0-clause-tape_after
@@ -116,7 +116,7 @@ returns-in_default-z-clause-tape_after c =
     let e = rw c.in-Got.is at c.natural-a.ensures in
     let g = wrote words_of _ _ _ (rw c.in-Got-w.is at c.statement_of-w.ensures.tape_after) in
     let f = reach_fault _ _ _ _ _ _ _ _ _ c.loop-left.invariant.0 _ _
-        (end_stop _ _ _ _ _ _ _ _ _ _ c.loop-left-test.true e c.if-k-eq0.false g.is (sym c.refusal-in_default-z.ensures ∙ c.line_end_of-z.ensures)) in
+    (end_stop _ _ _ _ _ _ _ _ _ _ c.loop-left-test.true e c.if-k-eq0.false g.is (sym c.refusal-in_default-z.ensures ∙ c.line_end_of-z.ensures)) in
     rw f
 
 pub returns-in_default-z-clause-result_after : goal.returns-in_default-z-clause-result_after
@@ -125,7 +125,7 @@ returns-in_default-z-clause-result_after c =
     let e = rw c.in-Got.is at c.natural-a.ensures in
     let g = wrote words_of _ _ _ (rw c.in-Got-w.is at c.statement_of-w.ensures.tape_after) in
     let f = reach_fault _ _ _ _ _ _ _ _ _ c.loop-left.invariant.0 _ _
-        (end_stop _ _ _ _ _ _ _ _ _ _ c.loop-left-test.true e c.if-k-eq0.false g.is (sym c.refusal-in_default-z.ensures ∙ c.line_end_of-z.ensures)) in
+    (end_stop _ _ _ _ _ _ _ _ _ _ c.loop-left-test.true e c.if-k-eq0.false g.is (sym c.refusal-in_default-z.ensures ∙ c.line_end_of-z.ensures)) in
     rw f
 
 pub head_line-requires : goal.head_line-requires
@@ -146,9 +146,10 @@ loop-left-preserved c =
     let h = rw c.in-Got-z.is at c.line_end_of-z.ensures in
     let f = reads-ends (lit< tt) (line_end_of-reads _ _ _) _ _ h in
     let l = line-goes _ _ _ _ _ _ _ _ _ c.loop-left-test.true e c.if-k-eq0.false g.is h in
-    let w = line-words _ _ _ _ (words_of g.value) g.tape g.next c.head_line.ensures in
-    (reach_more _ _ _ _ _ _ _ _ _ c.loop-left.invariant.0 _ _ _ _ _ l w (omega (arith, g.next)) (omega arith) (omega arith),
-        c.head_line.auto.tape ∙ c.statement_of-w.auto.tape ∙ c.loop-left.invariant.1)
+    let w = line-words _ _ _ _ (words_of g.value) g.tape g.next c.head_line.ensures in (
+      reach_more _ _ _ _ _ _ _ _ _ c.loop-left.invariant.0 _ _ _ _ _ l w (omega (arith, g.next)) (omega arith) (omega arith),
+      c.head_line.auto.tape ∙ c.statement_of-w.auto.tape ∙ c.loop-left.invariant.1,
+    )
 
 pub returns-clause-tape_after : goal.returns-clause-tape_after
 unfolding taped

@@ -31,4 +31,4 @@ unfolding comment_line
 returns-clause-tape_after c =
     let put = c.put-o1 in
     rw (← c.byte-a.ensures, c.in-Got.is) (c.rest.ensures.tape_after ∙ on_last _ _ _ _ _ _ _
-        (on_more _ _ _ (_ ∷ []) (on_start _ _) put.ensures.0 put.ensures.1) (λ bs. refl))
+    (on_more _ _ _ (_ ∷ []) (on_start _ _) put.ensures.0 put.ensures.1) (λ bs. refl))

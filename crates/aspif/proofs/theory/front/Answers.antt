@@ -50,5 +50,5 @@ returns-clause-tape_after c =
     let put-term = c.put_term-o2 in
     rw (← next-atom.ensures, c.in-Got.is, ← next-term.ensures, c.in-Got-b.is) (c.counted.ensures.tape_after ∙ on_last _ _ _ _ _ _ _
     (on_more _ _ _ (_ ∷ []) (on_more _ _ _ (_ ∷ _ ∷ []) (on_start _ _) begin-atom.ensures.0 begin-atom.ensures.1) put-term.ensures.0
-        put-term.ensures.1)
+    put-term.ensures.1)
     (λ vs. refl))

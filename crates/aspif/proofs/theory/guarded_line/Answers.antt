@@ -62,7 +62,7 @@ returns-clause-tape_after c =
     let wt = wrote (front_words guarded_kind) _ _ _ (rw c.in-Got.is at c.front-t.ensures.tape_after) in
     rw (wt.is, ← next-term.ensures, c.in-Got-a.is, ← next-term2.ensures, c.in-Got-b.is) (on_found _ _ _ _ _ _
     (on_more _ _ _ (_ ∷ []) (on_more _ _ _ (_ ∷ []) (on_more _ _ _ (front_words guarded_kind wt.value) (on_start _ _) wt.tape wt.next)
-        put-term.ensures.0 put-term.ensures.1) put-term2.ensures.0 put-term2.ensures.1)
+    put-term.ensures.0 put-term.ensures.1) put-term2.ensures.0 put-term2.ensures.1)
     (rw append_assoc))
 
 pub returns-clause-roomy : goal.returns-clause-roomy

@@ -49,9 +49,16 @@ returns-then-k-eq6-clause-tape_after c =
     let if5 = c.if-k-eq5 in
     let if6 = c.if-k-eq6 in
     rw (ne_eqb _ _ if1.false, ne_eqb _ _ if2.false, ne_eqb _ _ if3.false, ne_eqb _ _ if4.false, ne_eqb _ _ if5.false, eq-eqb _ _ if6.true)
-        c.guarded_line.ensures.tape_after
+    c.guarded_line.ensures.tape_after
 
 pub returns-clause-tape_after : goal.returns-clause-tape_after
 unfolding theory_of on_tape
-returns-clause-tape_after c = rw (ne_eqb _ _ c.if-k-eq0.false, ne_eqb _ _ c.if-k-eq1.false, ne_eqb _ _ c.if-k-eq2.false, ne_eqb _ _
-    c.if-k-eq4.false, ne_eqb _ _ c.if-k-eq5.false, ne_eqb _ _ c.if-k-eq6.false)
+returns-clause-tape_after c = rw (
+  ne_eqb _ _ c.if-k-eq0.false,
+  ne_eqb _ _ c.if-k-eq1.false,
+  ne_eqb _ _ c.if-k-eq2.false,
+  ne_eqb _ _
+      c.if-k-eq4.false,
+  ne_eqb _ _ c.if-k-eq5.false,
+  ne_eqb _ _ c.if-k-eq6.false,
+)

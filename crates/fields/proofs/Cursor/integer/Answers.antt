@@ -22,8 +22,11 @@ unfolding integer
 returns-in_default c = rw (← c.peek.ensures, ne_eqb _ _ c.if-peek-eq-MINUS_SIGN.false, ← c.natural-a.ensures, c.in_default.is)
 
 pub overflow_mul-code : goal.overflow_mul-code
-overflow_mul-code c = omega (arith, (reads-ends (lit< tt) (natural-reads 5 _ by_bounds _ _) _ _
-    (sym (ap as_word c.in-Got.is) ∙ c.natural-a.ensures)).0)
+overflow_mul-code c = omega (
+  arith,
+  (reads-ends (lit< tt) (natural-reads 5 _ by_bounds _ _) _ _
+      (sym (ap as_word c.in-Got.is) ∙ c.natural-a.ensures)).0,
+)
 
 pub returns : goal.returns
 unfolding integer

@@ -32,8 +32,12 @@ pub overflow_add-o : goal.overflow_add-o
 overflow_add-o c = omega (arith, ahead c)
 
 pub loop-left-preserved : goal.loop-left-preserved
-loop-left-preserved c = (items_more _ _ _ _ _ _ _ _ c.loop-left-test.true (sym (ap as_word c.in-Got.is) ∙ c.item-a.ensures) ∙
-    c.loop-left.invariant.0, omega (arith, ahead c), simp length-set (search rules))
+loop-left-preserved c = (
+  items_more _ _ _ _ _ _ _ _ c.loop-left-test.true (sym (ap as_word c.in-Got.is) ∙ c.item-a.ensures) ∙
+      c.loop-left.invariant.0,
+  omega (arith, ahead c),
+  simp length-set (search rules),
+)
 
 pub returns-clause-tape_after : goal.returns-clause-tape_after
 returns-clause-tape_after c = items-none _ _ _ _ _ _ c.loop-left-test.false ∙ c.loop-left.invariant.0

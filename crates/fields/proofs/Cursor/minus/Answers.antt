@@ -17,12 +17,18 @@ unfolding negative
 returns-then-v-eq0 c = rw (← c.natural-a.ensures, c.in-Got.is, eq-eqb _ _ c.if-v-eq0.true)
 
 pub overflow_mul-double : goal.overflow_mul-double
-overflow_mul-double c = omega (arith, (reads-ends (lit< tt) (natural-reads 5 _ by_bounds _ _) _ _
-    (sym (ap as_word c.in-Got.is) ∙ c.natural-a.ensures)).0)
+overflow_mul-double c = omega (
+  arith,
+  (reads-ends (lit< tt) (natural-reads 5 _ by_bounds _ _) _ _
+      (sym (ap as_word c.in-Got.is) ∙ c.natural-a.ensures)).0,
+)
 
 pub overflow_add-code : goal.overflow_add-code
-overflow_add-code c = omega (arith, (reads-ends (lit< tt) (natural-reads 5 _ by_bounds _ _) _ _
-    (sym (ap as_word c.in-Got.is) ∙ c.natural-a.ensures)).0)
+overflow_add-code c = omega (
+  arith,
+  (reads-ends (lit< tt) (natural-reads 5 _ by_bounds _ _) _ _
+      (sym (ap as_word c.in-Got.is) ∙ c.natural-a.ensures)).0,
+)
 
 pub returns : goal.returns
 unfolding negative

@@ -6,8 +6,12 @@ use borrow.Author.Rules.{rules}
 use Rattle.judge.proofs.show.part_from.Goals as goal
 
 pub returns-then-n-place : goal.returns-then-n-place
-returns-then-n-place c = record { bytes = behind_end c.args.s.now ∙ sym (part_out _ _ c.if-n-place.true); block = search rules; offset = search
-    rules }
+returns-then-n-place c = record {
+  bytes = behind_end c.args.s.now ∙ sym (part_out _ _ c.if-n-place.true);
+  block = search rules;
+  offset = search
+      rules;
+}
 
 pub slice_bounds-result-end-2 : goal.slice_bounds-result-end-2
 slice_bounds-result-end-2 c =
@@ -18,5 +22,8 @@ slice_bounds-result-end-2 c =
 pub returns : goal.returns
 returns c =
     let args = c.args in
-    record { bytes = part_between _ _ _ (part_end args.s.now args.place c.ends_of.ensures c.part_end-end.ensures); block = search rules;
-        offset = search rules }
+    record {
+      bytes = part_between _ _ _ (part_end args.s.now args.place c.ends_of.ensures c.part_end-end.ensures);
+      block = search rules;
+      offset = search rules;
+    }

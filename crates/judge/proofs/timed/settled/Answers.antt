@@ -15,7 +15,7 @@ pub written-requires : goal.written-requires
 written-requires c =
     let decide = c.decide-o in
     earliest_writable _ _ _ _ c.requires.labelled.0 _ _ _ _ (times_of _ _ _ _ _ _ _ decide.ensures c.in_default.is).earliest
-        c.requires.labelled.1 (c.decide-o.auto.t ∙ length-replicate {A = ℕ} term_places 0) c.requires.candidate.0 c.requires.candidate.1.bytes
+    c.requires.labelled.1 (c.decide-o.auto.t ∙ length-replicate {A = ℕ} term_places 0) c.requires.candidate.0 c.requires.candidate.1.bytes
 
 pub returns-in_default : goal.returns-in_default
 returns-in_default c = settled-times _ _ _ _ _ _ _ _ _ _ c.decide-o.ensures c.in_default.is c.written.result _ c.written.ensures

@@ -17,10 +17,12 @@ mark_names-requires c =
 pub settled-requires-clause-labelled : goal.settled-requires-clause-labelled
 settled-requires-clause-labelled c =
     let g = c.gather-n in
-    let k = g.auto in
-    (gathered_labelled _ _ _ _ _ c.requires.filled.0 _ c.requires.filled.1 _ _ _ _ _ g.ensures
-        (still-within c.requires.filled.0.roomy g.ensures.few k.atoms k.xs k.ys k.ks), c.mark_names.auto.names ∙ length-replicate {A = ℕ}
-        term_places 0)
+    let k = g.auto in (
+      gathered_labelled _ _ _ _ _ c.requires.filled.0 _ c.requires.filled.1 _ _ _ _ _ g.ensures
+          (still-within c.requires.filled.0.roomy g.ensures.few k.atoms k.xs k.ys k.ks),
+      c.mark_names.auto.names ∙ length-replicate {A = ℕ}
+          term_places 0,
+    )
 
 pub returns : goal.returns
 returns c =
@@ -28,4 +30,4 @@ returns c =
     let names = c.mark_names in
     let settled = c.settled in
     λ ls h. settled-timed ls _ _ _ _ _ h _ c.requires.filled.1 _ _ _ _ _ g.ensures _ names.ensures _ _ _
-        (sym (part-long _ _ _ c.gather-n.auto.ks c.requires.filled.0.roomy.in_ks g.ensures.few)) settled.ensures
+    (sym (part-long _ _ _ c.gather-n.auto.ks c.requires.filled.0.roomy.in_ks g.ensures.few)) settled.ensures

@@ -36,5 +36,5 @@ returns c =
     let fits : SFits w32 d.k = search rules in
     let a = c.atom_at-a.ensures in
     atom-turned _ _ _ _ _ pre.1 (sym (ap as_use c.in_default.is) ∙ c.atom_use-unknown.ensures _) _ a
-        (sym c.if-is_entered.false ∙ c.is_entered.ensures) _ _ (record { x = d.x.0; y = d.y.0; k = d.k }) _ pre.0
-        (rw d.is at c.difference-d.ensures) (omega (arith, a, pre.2, atom-room pre.0 pre.1)) c.enter_atom.ensures (rw (back {z = d.k} fits))
+    (sym c.if-is_entered.false ∙ c.is_entered.ensures) _ _ (record { x = d.x.0; y = d.y.0; k = d.k }) _ pre.0
+    (rw d.is at c.difference-d.ensures) (omega (arith, a, pre.2, atom-room pre.0 pre.1)) c.enter_atom.ensures (rw (back {z = d.k} fits))

@@ -9,8 +9,12 @@ returns-then-e-eq0 c = unknown_here _ _ _ _ _ _ _ c.loop-left-test.true c.word_a
     c.loop-left.invariant.0
 
 pub loop-left-preserved : goal.loop-left-preserved
-loop-left-preserved c = (unknown-later _ _ _ _ _ _ _ c.loop-left-test.true c.word_at-u.ensures.0 c.entry-e.ensures c.if-e-eq0.false ∙
-    c.loop-left.invariant.0, omega arith, omega arith)
+loop-left-preserved c = (
+  unknown-later _ _ _ _ _ _ _ c.loop-left-test.true c.word_at-u.ensures.0 c.entry-e.ensures c.if-e-eq0.false ∙
+      c.loop-left.invariant.0,
+  omega arith,
+  omega arith,
+)
 
 pub returns : goal.returns
 returns c = unknown-none _ _ _ _ _ c.loop-left-test.false ∙ c.loop-left.invariant.0
