@@ -5,7 +5,7 @@ use mathlib.Core.Logic.{inr}
 use mathlib.Core.List.{List, [], ◌∷◌, ◌++◌, append_assoc}
 use mathlib.Core.Bool.{Bool, true, false, ◌&&◌}
 use native.Mathlib.Omega.{arith}
-use borrow.Author.Tests.{eq-eqb, ne_eqb, eqb-true, eqb-false, leb-true, leb-false, ltb-true, le-leb, lt-leb}
+use borrow.Author.Tests.{eq-eqb, ne_eqb, eqb-true, eqb-false, leb-true, leb-false, ltb-true}
 use lib.Dec.{eqb, leb, ltb, lit<}
 use lib.ListN.{length, get_or, set, replicate, length-set, length-replicate}
 use lib.Seq.{get_or-set_same, get_or-set_other}
@@ -13,7 +13,6 @@ use Rattle.faults.specs.Limits.{last_atom}
 use Rattle.faults.specs.inner.Places.{atom_places}
 use Rattle.faults.specs.Answer.{got, refused}
 use Rattle.fields.specs.Reading.{Reading, found, fault, is_found, and_then}
-use Rattle.fields.specs.declared.LineEnd.{LineEnd}
 use Rattle.fields.specs.declared.LineEnd.TheVariants as by
 use Rattle.fields.specs.Fields.{byte_at, byte, line_end, text_end, field, all_digits, is_natural, value, natural}
 use Rattle.fields.proofs.Decimal.{value_grows}
@@ -65,19 +64,6 @@ natural-short k s at v n = go (is_natural (field s at)) refl (leb (value 0 (fiel
         omega (arith, field-short (field s at) p (leb-true (value 0 (field s at)) last_atom q))
     go true p false q e = let z : ◌≡◌ {A = ℕ} 0 1 = (cc) in absurd (omega arith)
     go false p u q e = let z : ◌≡◌ {A = ℕ} 0 1 = (cc) in absurd (omega arith)
-
-module _ (low : ℕ) (s : List ℕ) (at : ℕ) where
-  pub above-refused : {k p : ℕ} → fault k p ≡ natural 7 last_atom s at → fault 7 at ≡ atom_above low s at
-  unfolding atom_above
-  above-refused {k} {p} e = let z : p ≡ at = natural-fault 7 last_atom s at k p e in rw (← e, z)
-
-  pub above_low : {v n : ℕ} → found v n ≡ natural 7 last_atom s at → v ≤ low → fault 7 at ≡ atom_above low s at
-  unfolding atom_above
-  above_low {v} e l = rw (← e, le-leb v low l)
-
-  pub above_good : {v n : ℕ} → found v n ≡ natural 7 last_atom s at → low < v → found v n ≡ atom_above low s at
-  unfolding atom_above
-  above_good {v} e l = rw (← e, lt-leb v low l)
 
 -- what an atom above another is: a fault at its first byte, or a number in its bounds
 pub data Above (low : ℕ) (s : List ℕ) (at : ℕ) : Reading ℕ → Type 0 where
@@ -179,29 +165,33 @@ above_bounds low s at {v} {n} = go (atom_above low s at) (above low s at)
         let p : v ≡ w = (cc) in
         (omega arith, omega arith)
 
--- the bitmap so far: it holds atoms to low, and with those that are read from a place on they are the whole answer
-pub record Marking (s x : List ℕ) (low at : ℕ) (whole : Reading (List ℕ)) : Type 0 where
+-- the bitmap after k turns: it holds atoms to low, and with those that are read from a place on they are the whole answer
+pub record Marking (s x : List ℕ) (low at k : ℕ) (whole : Reading (List ℕ)) : Type 0 where
   pub places : length x ≡ atom_places
   pub clear : (a : ℕ) → low < a → get_or x a 0 ≡ 0
-  pub rest : whole ≡ behind (atoms_of x) (ascending (last_atom - low) low s at)
+  pub rest : whole ≡ behind (atoms_of x) (ascending (last_atom - k) low s at)
 
 -- a bitmap of zeros is blank
 pub blank_zeros : Blank (replicate atom_places 0)
 blank_zeros = record { places = length-replicate {A = ℕ} atom_places 0; clear = zeros atom_places }
 
-pub marking_start : {s x : List ℕ} {at : ℕ} → Blank x → Marking s x 0 at (ascending last_atom 0 s at)
+pub none_marked : (x : List ℕ) → Blank x → atoms_of x ≡ []
+none_marked x b = marks-none x b.clear
+
+pub marking_start : {s x : List ℕ} {at : ℕ} → Blank x → Marking s x 0 at 0 (ascending last_atom 0 s at)
 marking_start {s} {x} {at} b =
-    record { places = b.places; clear = λ a l. b.clear a; rest = rw (marks-none x b.clear) (behind-none (ascending last_atom 0 s at)) }
+    record { places = b.places; clear = λ a l. b.clear a; rest = rw (none_marked x b) (behind-none (ascending last_atom 0 s at)) }
 
-module _ {s x : List ℕ} {low at : ℕ} {whole : Reading (List ℕ)} (h : Marking s x low at whole) where
-  pub marking_out : last_atom ≤ low → refused 7 at ≡ answer whole
-  marking_out l = rw (h.rest, ascending-none (last_atom - low) low s at l)
+module _ {s x : List ℕ} {low at k : ℕ} {whole : Reading (List ℕ)} (h : Marking s x low at k whole) where
+  pub marking_out : last_atom ≤ k → refused 7 at ≡ answer whole
+  unfolding ascending
+  marking_out l = let z : last_atom - k ≡ 0 = omega arith in rw (h.rest, z)
 
-  module _ (l : low < last_atom) where
-    next : whole ≡ behind (atoms_of x) (and_then (atom_above low s at) (onward (last_atom - low - 1) s))
-    next = h.rest ∙ rw (turn (last_atom - low) low s at (omega arith))
+  module _ (l : k < last_atom) where
+    next : whole ≡ behind (atoms_of x) (and_then (atom_above low s at) (onward (last_atom - k - 1) s))
+    next = h.rest ∙ rw (turn (last_atom - k) low s at (omega arith))
 
-    pub marking_stop : {k p : ℕ} → fault k p ≡ atom_above low s at → refused k p ≡ answer whole
+    pub marking_stop : {j p : ℕ} → fault j p ≡ atom_above low s at → refused j p ≡ answer whole
     marking_stop e = rw (next, ← e)
 
     module _ {v m : ℕ} (e : found v m ≡ atom_above low s at) where
@@ -211,7 +201,7 @@ module _ {s x : List ℕ} {low at : ℕ} {whole : Reading (List ℕ)} (h : Marki
       marks : atoms_of (set x v 1) ≡ atoms_of x ++ (v ∷ [])
       marks = marks-more x v (omega (arith, h.places, bounds)) (λ a g. h.clear a (omega (arith, bounds)))
 
-      pub marking_open : {i q k p : ℕ} → fault i q ≡ byte 32 s m → fault k p ≡ ending s m → refused k p ≡ answer whole
+      pub marking_open : {i q j p : ℕ} → fault i q ≡ byte 32 s m → fault j p ≡ ending s m → refused j p ≡ answer whole
       marking_open b d = rw (next, ← e, ne_eqb _ _ (byte_missed 32 s m b), ← d)
 
       pub marking_last : {i q l : ℕ} → fault i q ≡ byte 32 s m → found tt l ≡ ending s m → got (atoms_of (set x v 1)) ≡ answer whole
@@ -226,33 +216,24 @@ module _ {s x : List ℕ} {low at : ℕ} {whole : Reading (List ℕ)} (h : Marki
         marked = inr (rw (get_or-set_same x v 1 0 (omega (arith, h.places, bounds))));
       }
 
-      pub marking_more : {l : ℕ} → found tt l ≡ byte 32 s m → Marking s (set x v 1) v l whole
+      pub marking_more : {l : ℕ} → found tt l ≡ byte 32 s m → Marking s (set x v 1) v l (k + 1) whole
       marking_more b =
           let r = byte-read 32 s m b in
+          let d : last_atom - (k + 1) ≡ last_atom - k - 1 = omega arith in
           rw r.1
           (record {
             places = simp length-set h.places;
             clear = λ a g. get_or-set_other x v a 1 0 (λ d. omega arith) ∙ h.clear a (omega (arith, bounds));
             rest =
                 next
-                ∙ rw (← e, eq-eqb _ _ r.0, marks, ascending_enough (last_atom - low - 1) (last_atom - v) v s (m + 1) (omega (arith, bounds)) (omega (arith, bounds)))
-                (behind-both (atoms_of x) (v ∷ []) (ascending (last_atom - v) v s (m + 1)));
+                ∙ rw (← e, eq-eqb _ _ r.0, marks, d)
+                (behind-both (atoms_of x) (v ∷ []) (ascending (last_atom - k - 1) v s (m + 1)));
           })
 
+-- what marking meets where little else is to be known
+pub ruleset marking = (none_marked, above_bounds, marking_start, marking_out, marking_stop, marking_last)
+
 -- ---- what a candidate is
-
-module _ (s : List ℕ) where
-  pub empty-refused : {e : LineEnd} {i k p : ℕ} → found e i ≡ line_end s 0 → fault k p ≡ ending s 0 → refused k p ≡ candidate s
-  unfolding candidate candidate_line
-  empty-refused b e = rw (← b, ← e)
-
-  pub empty_good : {e : LineEnd} {i n : ℕ} → found e i ≡ line_end s 0 → found tt n ≡ ending s 0 → got [] ≡ candidate s
-  unfolding candidate candidate_line
-  empty_good b e = rw (← b, ← e)
-
-  pub candidate_other : {k p : ℕ} → fault k p ≡ line_end s 0 → answer (ascending last_atom 0 s 0) ≡ candidate s
-  unfolding candidate candidate_line
-  candidate_other b = rw (← b)
 
 -- strictly ascending above low, to the largest atom
 abbrev pub AscendingFrom : (low : ℕ) → List ℕ → Type 0

@@ -4,6 +4,7 @@ pub mod Decoding
 pub mod Kept
 pub mod Counter
 pub mod Candidates
+pub mod Far
 pub mod Fronts
 pub mod Turns
 pub mod Walking

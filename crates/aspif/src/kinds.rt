@@ -1,4 +1,5 @@
 // The kinds of statements and of bodies on the tape.
+// Kept: words of the tape are numbers in fixed memory, which `says_at` of the specs decodes; an enum would be turned into them and back at each use.
 
 pub const RULE: u32 = 1;
 

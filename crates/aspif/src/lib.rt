@@ -3,15 +3,15 @@
 
 ghost use Rattle.std.specs.Prelude.{◌≡◌, ◌≤◌, length};
 ghost use Rattle.faults.specs.Answer.{mapped};
-ghost use Rattle.faults.specs.Values.{as_step};
+ghost use Rattle.faults.specs.Values.{as_answer};
 ghost use Rattle.fields.specs.inner.Bounds.{longest_read};
 ghost use Rattle.aspif.specs.Grammar.{statements};
 ghost use Rattle.aspif.specs.inner.Words.{lines_of};
 ghost use Rattle.aspif.specs.inner.Values.{as_tape, taped, taped_if};
 
-use faults::Step;
+use faults::Refusal;
 use fields::Cursor;
-use lines::{HeaderField, first_line, lines};
+use lines::{first_line, lines};
 
 pub mod candidate;
 pub mod kinds;
@@ -23,17 +23,13 @@ pub mod walk;
 pub mod words;
 
 // What the text says, on the tape from its start on, and how many lines that is; or 3, 4 or 5.
-pub fn read(s: &[u8], tape: &mut [u32]) -> Step
+#[tactic(auto, using(crate::proofs::Far::first_far), unfolding(crate::specs::Grammar::statements, crate::specs::Grammar::plan, crate::specs::inner::Values::taped))]
+pub fn read(s: &[u8], tape: &mut [u32]) -> Result<usize, Refusal>
     requires { (length s.now ≤ length tape.old) × (length s.now ≤ longest_read) }
     ensures tape_after { as_tape result tape.new ≡ taped tape.old (statements s.now) }
-    ensures result_after { mapped (lines_of tape.new) (as_step result) ≡ statements s.now }
+    ensures result_after { mapped (lines_of tape.new) (as_answer result) ≡ statements s.now }
     ensures taped_if { taped_if result tape.new }
 {
-    let start = Cursor::start();
-    let a = first_line(start, s);
-    let HeaderField::Got(first, c) = a else {
-        return Step::Refused(a.refusal());
-    };
-    let n = s.len();
-    lines(c, s, first, n, tape)
+    let (first, c) = first_line(Cursor::start(), s)?;
+    lines(c, s, first, s.len(), tape)
 }

@@ -3,7 +3,6 @@ ghost use Rattle.std.specs.Prelude.{◌≡◌, ◌+◌, ◌-◌, ◌≤◌, ◌<
 ghost use Rattle.std.proofs.lemmas.List.Edits.{sets};
 
 use crate::words::{SAYS, SIZE};
-use faults::{AtomNo, ElementNo, TermNo};
 
 // Stores a word, and gives the place after it.
 pub fn put(tape: &mut [u32], out: usize, w: u32) -> usize
@@ -23,46 +22,11 @@ pub fn begin(tape: &mut [u32], out: usize, kind: u32, w: u32) -> usize
     put(tape, o, w)
 }
 
-// Stores the kind of a statement about a term, and the term; gives the place after them.
-pub fn begin_term(tape: &mut [u32], out: usize, kind: u32, u: TermNo) -> usize
-    requires { out + 2 ≤ length tape.old }
-    ensures { (tape.new ≡ sets tape.old out (kind ∷ u.0 ∷ [])) × (result ≡ out + 2) }
-{
-    begin(tape, out, kind, u.0)
-}
-
-// Stores the kind of a statement about an element, and the element; gives the place after them.
-pub fn begin_element(tape: &mut [u32], out: usize, kind: u32, v: ElementNo) -> usize
-    requires { out + 2 ≤ length tape.old }
-    ensures { (tape.new ≡ sets tape.old out (kind ∷ v.0 ∷ [])) × (result ≡ out + 2) }
-{
-    begin(tape, out, kind, v.0)
-}
-
-// Stores the kind of a statement about an atom, and the atom; gives the place after them.
-pub fn begin_atom(tape: &mut [u32], out: usize, kind: u32, a: AtomNo) -> usize
-    requires { out + 2 ≤ length tape.old }
-    ensures { (tape.new ≡ sets tape.old out (kind ∷ a.0 ∷ [])) × (result ≡ out + 2) }
-{
-    begin(tape, out, kind, a.0)
-}
-
-// Stores a term, and gives the place after it.
-pub fn put_term(tape: &mut [u32], out: usize, u: TermNo) -> usize
-    requires { out < length tape.old }
-    ensures { (tape.new ≡ sets tape.old out (u.0 ∷ [])) × (result ≡ out + 1) }
-{
-    put(tape, out, u.0)
-}
-
 // Stores the place of the line at out and the count of the words behind these two, which end at `end`.
 pub fn head_line(tape: &mut [u32], out: usize, place: usize, end: usize)
     requires { (out + 2 ≤ end) × (end ≤ length tape.old) × (place < 4294967296) × (end < 4294967296) }
     ensures { tape.new ≡ set (set tape.old out place) (out + 1) (end - (out + 2)) }
 {
-    let from = out + SAYS;
-    let size = end - from;
-    let next = out + SIZE;
     tape[out] = place as u32;
-    tape[next] = size as u32;
+    tape[out + SIZE] = (end - (out + SAYS)) as u32;
 }

@@ -6,45 +6,37 @@ use crate::words::{SAYS, SIZE};
 use faults::{AtomNo, ElementNo, TermNo};
 
 // The word at p + k, or 0 past the end.
+#[tactic(auto, using(crate::proofs::Walking::word_out), unfolding(crate::specs::inner::Words::word))]
 pub fn word_at(tape: &[u32], p: usize, k: usize) -> u32
-    requires { k ≤ 16 }
     ensures { (result ≡ word tape.now (p + k)) × (result < 4294967296) }
 {
-    if tape.len() <= p {
-        return 0;
+    match tape.get(p.saturating_add(k)) {
+        Some(w) => *w,
+        None => 0,
     }
-    let q = p + k;
-    if tape.len() <= q {
-        return 0;
-    }
-    tape[q]
 }
+
+// Kept: each of the three is one line; one generic function takes a trait with three impls, and names the type at each call.
 
 // The atom at p + k.
 pub fn atom_at(tape: &[u32], p: usize, k: usize) -> AtomNo
-    requires { k ≤ 16 }
     ensures { result.0 ≡ word tape.now (p + k) }
 {
-    let a = word_at(tape, p, k);
-    AtomNo(a)
+    AtomNo(word_at(tape, p, k))
 }
 
 // The term at p + k.
 pub fn term_at(tape: &[u32], p: usize, k: usize) -> TermNo
-    requires { k ≤ 16 }
     ensures { result.0 ≡ word tape.now (p + k) }
 {
-    let u = word_at(tape, p, k);
-    TermNo(u)
+    TermNo(word_at(tape, p, k))
 }
 
 // The element at p + k.
 pub fn element_at(tape: &[u32], p: usize, k: usize) -> ElementNo
-    requires { k ≤ 16 }
     ensures { result.0 ≡ word tape.now (p + k) }
 {
-    let v = word_at(tape, p, k);
-    ElementNo(v)
+    ElementNo(word_at(tape, p, k))
 }
 
 // The place after the line at p.
@@ -52,7 +44,5 @@ pub fn after_at(tape: &[u32], p: usize) -> usize
     requires { p ≤ length tape.now }
     ensures { result ≡ after tape.now p }
 {
-    let size = word_at(tape, p, SIZE);
-    let from = p + SAYS;
-    from + (size as usize)
+    p + SAYS + word_at(tape, p, SIZE) as usize
 }

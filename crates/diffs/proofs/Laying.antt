@@ -1,73 +1,44 @@
--- A part of a list, from one of its places on and round to it, is written through a table to the front of another: by index, one entry a turn.
-use mathlib.Core.Path.{◌≡◌, refl, ap, sym, ◌∙◌}
-use mathlib.Core.Logic.{◌⊎◌, inl, inr}
-use mathlib.Core.List.{List, [], ◌∷◌, ◌++◌, map}
-use Prim.Native.Nat.{ℕ, zero, suc, ◌+◌, ◌-◌, ◌≤◌, ◌<◌}
+-- A walk, from one of its places on and round to it, is written through a table to the front of a room: first its end, then its front.
+use mathlib.Core.Path.{◌≡◌, ap, ap₂, sym, ◌∙◌}
+use mathlib.Core.List.{List, ◌++◌, map, map-append}
+use Prim.Native.Nat.{ℕ, ◌+◌, ◌-◌, ◌≤◌, ◌<◌}
 use native.Mathlib.Omega.{arith}
-use native.Mathlib.Decide.{dec_lt, ℕ_discrete}
-use lib.ListN.{length, set, drop, length-set, length-drop, length-append, length-map, get_or-append}
-use lib.Seq.{slice, length-slice, get_or-drop, get_or-append-add, ext_get_or, get_or-set_same, get_or-set_other}
+use lib.ListN.{length, set, take, drop, length-take, length-drop, length-append, length-map}
+use lib.Seq.{drop-drop, take_all, take_at, drop_at, append_snoc, set_at, length-take-le}
+use Rattle.std.proofs.lemmas.List.{append-nil, append_assoc, drop_more, drop_all, map_more}
+use borrow.Rule.Slice.PartMut.{mid_of, put_mid}
 use Rattle.diffs.specs.inner.Answer.{cell}
 use Rattle.diffs.specs.inner.Steps.{turned}
-use Rattle.diffs.proofs.Choosing.{by_dec}
-use Rattle.diffs.proofs.Slices.{slice_at}
 
-map_at : (f : ℕ → ℕ) (l : List ℕ) (k : ℕ) → k < length l → cell (map f l) k ≡ f (cell l k)
-map_at f [] k h = let z : ⊥ = omega arith in absurd z
-map_at f (x ∷ l) zero h = refl
-map_at f (x ∷ l) (suc k) h = map_at f l k (omega arith)
+-- one more entry of a part is written
+pub one_more : (f : ℕ → ℕ) (part room : List ℕ) (j : ℕ) → j < length part → length part ≤ length room
+    → set (map f (take j part) ++ drop j room) j (f (cell part j)) ≡ map f (take (j + 1) part) ++ drop (j + 1) room
+one_more f part room j h g =
+    let l : length (map f (take j part)) ≡ j = length-map (take j part) f ∙ length-take-le j part (omega arith) in
+    ap (λ (r : List ℕ). set (map f (take j part) ++ r) j (f (cell part j))) (drop_more room j 0 (omega arith))
+    ∙ set_at (map f (take j part)) (cell room j) (drop (j + 1) room) (f (cell part j)) j l
+    ∙ sym (append_snoc (map f (take j part)) (f (cell part j)) (drop (j + 1) room))
+    ∙ ap (λ (r : List ℕ). r ++ drop (j + 1) room) (sym (map_more f part j 0 h))
 
-join_at : (l r : List ℕ) (n k : ℕ) → length l ≡ n → n ≤ k → cell (l ++ r) k ≡ cell r (k - n)
-join_at l r n k e h =
-    let q : length l + (k - n) ≡ k = omega arith in
-    ap (cell (l ++ r)) (sym q) ∙ get_or-append-add l r (k - n) 0
+pub turned-length : (w : List ℕ) (q : ℕ) → q ≤ length w → length (turned w q) ≡ length w
+turned-length w q h = omega (arith, length-append (drop q w) (take q w), length-drop q w, length-take q w)
 
--- j entries are written
-pub record LaidUpTo (w : List ℕ) (start end q : ℕ) (labels room₀ : List ℕ) (j : ℕ) (room : List ℕ) : Type 0 where
-  pub same : length room ≡ length room₀
-  pub upto : j ≤ end - start
-  pub new : (k : ℕ) → k < j → cell room k ≡ cell labels (cell (turned w start end q) k)
-  pub old : (k : ℕ) → j ≤ k → cell room k ≡ cell room₀ k
-
-module _ (w : List ℕ) (start end q : ℕ) (within : end ≤ length w) (from : start ≤ q) (before : q < end) where
-  pub turned-length : length (turned w start end q) ≡ end - start
-  turned-length = omega (arith, length-append (slice q end w) (slice start q w), length-slice q end w within, length-slice start q w (omega arith))
-
-  -- the code's place of entry k
-  pub source : (k s : ℕ) → k < end - start → ((end ≤ q + k) × (s ≡ q + k - (end - start))) ⊎ ((q + k < end) × (s ≡ q + k)) → (start ≤ s) × (s < end) × (cell (turned w start end q) k ≡ cell w s)
-  source k s h (inl c) = (
-    omega (arith, c.0, c.1),
-    omega (arith, c.0, c.1),
-    join_at (slice q end w) (slice start q w) (end - q) k (length-slice q end w within) (omega (arith, c.0)) ∙ slice_at w start q (k - (end - q)) (omega (arith, c.0)) ∙ ap (cell w) (omega (arith, c.0, c.1)),
-  )
-  source k s h (inr c) = (
-    omega (arith, c.0, c.1),
-    omega (arith, c.0, c.1),
-    get_or-append (slice q end w) (slice start q w) 0 k (omega (arith, c.0, length-slice q end w within)) ∙ slice_at w q end k (omega (arith, c.0)) ∙ ap (cell w) (sym c.1),
-  )
-
-  module _ (labels room₀ : List ℕ) where
-    pub none : LaidUpTo w start end q labels room₀ 0 room₀
-    none = record { same = refl; upto = omega arith; new = λ k h. let z : ⊥ = omega arith in absurd z; old = λ k h. refl }
-
-    pub one_more : (j : ℕ) (room : List ℕ) (s : ℕ) → LaidUpTo w start end q labels room₀ j room → end - start ≤ length room₀ → j < end - start → cell (turned w start end q) j ≡ cell w s → LaidUpTo w start end q labels room₀ (j + 1) (set room j (cell labels (cell w s)))
-    one_more j room s v f h e = record {
-      same = length-set room j _ ∙ v.same;
-      upto = omega arith;
-      new = λ k g. by_dec (ℕ_discrete k j)
-          (λ i. ap (cell (set room j (cell labels (cell w s)))) i ∙ get_or-set_same room j _ 0 (omega (arith, v.same)) ∙ ap (cell labels) (sym e) ∙ ap (λ (n : ℕ). cell labels (cell (turned w start end q) n)) (sym i))
-          (λ i. get_or-set_other room j k _ 0 i ∙ v.new k (omega arith));
-      old = λ k g. get_or-set_other room j k _ 0 (λ i. let z : ⊥ = omega arith in z) ∙ v.old k (omega arith);
-    }
-
-    pub all-written : (j : ℕ) (room : List ℕ) → LaidUpTo w start end q labels room₀ j room → end - start ≤ length room₀ → j ≡ end - start → room ≡ map (cell labels) (turned w start end q) ++ drop (end - start) room₀
-    all-written j room v f e =
-        ext_get_or 0 room (map (cell labels) (turned w start end q) ++ drop (end - start) room₀)
-        (omega (arith, v.same, length-append (map (cell labels) (turned w start end q)) (drop (end - start) room₀), length-map (turned w start end q) (cell labels), turned-length, length-drop (end - start) room₀))
-        (λ k h. by_dec (dec_lt k (end - start))
-        (λ l. v.new k (omega arith) ∙ sym (map_at (cell labels) (turned w start end q) k (omega (arith, turned-length)))
-        ∙ sym (get_or-append (map (cell labels) (turned w start end q)) (drop (end - start) room₀) 0 k (omega (arith, turned-length, length-map (turned w start end q) (cell labels)))))
-        (λ l.
-        let g : (end - start) + (k - (end - start)) ≡ k = omega arith in
-        v.old k (omega arith) ∙ ap (cell room₀) (sym g) ∙ sym (get_or-drop (end - start) room₀ (k - (end - start)) 0)
-        ∙ sym (join_at (map (cell labels) (turned w start end q)) (drop (end - start) room₀) (end - start) k (length-map (turned w start end q) (cell labels) ∙ turned-length) (omega arith))))
+-- both parts are written: a, the walk's end, and then b, its front
+pub all-written : (f : ℕ → ℕ) (w a b room room' part : List ℕ) (q n k : ℕ) → q ≤ length w → length w ≤ length room → n ≡ length w - q → k ≡ length room - n
+    → a ≡ drop q w → b ≡ take q w
+    → room' ≡ map f a ++ drop (length a) room → part ≡ map f b ++ drop (length b) (mid_of n k room')
+    → put_mid n k room' part ≡ map f (turned w q) ++ drop (length w) room
+all-written f w a b room room' part q n k h r nn kk aa bb e g =
+    let la : length a ≡ n = omega (arith, ap length aa, length-drop q w) in
+    let lb : length b ≡ q = omega (arith, ap length bb, length-take q w) in
+    let lm : length (map f a) ≡ n = length-map a f ∙ la in
+    let t : take n room' ≡ map f a = ap (take n) e ∙ take_at (map f a) (drop (length a) room) n lm in
+    let d : drop n room' ≡ drop n room = ap (drop n) e ∙ drop_at (map f a) (drop (length a) room) n lm ∙ ap (λ (i : ℕ). drop i room) la in
+    let l : length (drop n room') ≤ k = omega (arith, ap length d, length-drop n room) in
+    let m : mid_of n k room' ≡ drop n room = take_all k (drop n room') l ∙ d in
+    let z : n + length b ≡ length w = omega arith in
+    ap₂ (λ (x y : List ℕ). x ++ y) t
+    (ap₂ (λ (x y : List ℕ). x ++ y) (g ∙ ap (λ (x : List ℕ). map f b ++ drop (length b) x) m) (drop_all k (drop n room') l) ∙ append-nil _)
+    ∙ ap (λ (x : List ℕ). map f a ++ (map f b ++ x)) (drop-drop (length b) n room ∙ ap (λ (i : ℕ). drop i room) z)
+    ∙ sym (append_assoc (map f a) (map f b) (drop (length w) room))
+    ∙ ap (λ (x : List ℕ). x ++ drop (length w) room) (ap₂ (λ (x y : List ℕ). map f x ++ map f y) aa bb ∙ sym (map-append f (drop q w) (take q w)))

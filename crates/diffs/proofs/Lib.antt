@@ -1,8 +1,6 @@
 pub mod Choosing
 pub mod Integers
-pub mod Signs
 pub mod Names
-pub mod Slices
 pub mod Cycles
 pub mod Turning
 pub mod EarliestTimes
@@ -14,5 +12,4 @@ pub mod Tracing
 pub mod Summing
 pub mod Laying
 pub mod Showing
-pub mod Deciding
 pub mod Answers

@@ -1,64 +1,61 @@
--- Summing bounds along a part of a list, from its end, in 64 bits: at most 1,024 bounds of 32 bits each leave room.
-use mathlib.Core.Path.{◌≡◌, ap, ap₂, subst, sym, ◌∙◌}
-use mathlib.Core.List.{List, ◌∷◌, map}
-use Prim.Native.Nat.{ℕ, suc, ◌-◌, ◌*◌, ◌^◌, ◌≤◌, ◌<◌}
+-- Summing the bounds that a walk lists, in 64 bits: at most 1,024 bounds of 32 bits each leave room.
+use mathlib.Core.Path.{◌≡◌, ap, subst, sym, ◌∙◌}
+use mathlib.Core.List.{List, [], ◌∷◌, map}
+use Prim.Native.Nat.{ℕ, ◌+◌, ◌*◌, ◌^◌, ◌≤◌, ◌<◌}
 use native.Mathlib.Omega.{arith}
-use lib.ListN.{length, get_or}
-use lib.Seq.{slice, slice_empty, slice-cons}
-use lib.IntN.{ℤ, pos, negsuc, ◌+ℤ◌}
+use lib.ListN.{length, take}
+use lib.IntN.{ℤ, pos, negsuc, ◌+ℤ◌, +ℤ_idr}
 use mir.Syntax.{w32, w64}
 use mir.Val.{SFits, to_z, of_z}
-use mir.Facts.{to_z-of_z}
+use mir.Facts.{to_z-of_z, sfits_widen}
+use Rattle.std.proofs.lemmas.List.{map_more}
 use Rattle.faults.specs.inner.Places.{term_places}
 use Rattle.diffs.specs.Diff.{Sum}
 use Rattle.diffs.specs.inner.Answer.{cell, diff_at}
 use Rattle.diffs.specs.inner.Steps.{up, down, most_down}
+use Rattle.diffs.specs.declared.Difference.{Difference}
 use Rattle.diffs.proofs.Integers.{add_most}
-use Rattle.diffs.proofs.Signs.{up_small, down-small}
+use Rattle.diffs.proofs.Turning.{sum_join}
+
+-- a bound of 32 bits adds and takes away at most so much
+up_small : (k : ℤ) → SFits w32 k → up k < 2 ^ 31
+up_small (pos n) f = let h = f.sfits in omega arith
+up_small (negsuc n) f = omega arith
+
+down-small : (k : ℤ) → SFits w32 k → down k ≤ most_down
+down-small (pos n) f = omega arith
+down-small (negsuc n) f = let h = f.sfits in omega arith
 
 fits_of : (z : ℤ) → up z < 2 ^ 63 → down z < 2 ^ 63 → SFits w64 z
 fits_of (pos n) h g = record { sfits = h }
 fits_of (negsuc n) h g = record { sfits = omega arith }
 
-slice-more : (w : List ℕ) (i end : ℕ) → 0 < i → i ≤ end → end ≤ length w → slice (i - 1) end w ≡ cell w (i - 1) ∷ slice i end w
-slice-more w i end p h g =
-    let e : suc (i - 1) ≡ i = omega arith in
-    slice-cons (i - 1) end w 0 (omega arith) g ∙ ap (λ (n : ℕ). cell w (i - 1) ∷ slice n end w) e
+-- z is the sum of the first i bounds
+pub record Summed (ds : List Difference) (w : List ℕ) (i : ℕ) (z : ℤ) : Type 0 where
+  pub is : z ≡ Sum (map (diff_at ds) (take i w))
+  pub high : up z ≤ i * most_down
+  pub low : down z ≤ i * most_down
 
--- z is the sum of the bounds from place i on
-pub record Summed (ks : List ℤ) (w : List ℕ) (start end i : ℕ) (z : ℤ) : Type 0 where
-  pub from : start ≤ i
-  pub upto : i ≤ end
-  pub is : (xs ys : List ℕ) → z ≡ Sum (map (diff_at xs ys ks) (slice i end w))
-  pub high : up z ≤ (end - i) * most_down
-  pub low : down z ≤ (end - i) * most_down
+module _ (ds : List Difference) (w : List ℕ) (i : ℕ) (z : ℤ) (v : Summed ds w i z) (h : i < length w) (g : length w ≤ term_places) (f : SFits w32 (diff_at ds (cell w i)).k) where
+  abbrev k : ℤ
+  k = (diff_at ds (cell w i)).k
 
-module _ (ks : List ℤ) (w : List ℕ) (start end : ℕ) where
-  pub begun : start < end → Summed ks w start end end (pos 0)
-  begun h = record {
-    from = omega arith;
-    upto = omega arith;
-    is = λ xs ys. ap (λ (l : List ℕ). Sum (map (diff_at xs ys ks) l)) (sym (slice_empty end w));
-    high = omega arith;
-    low = omega arith;
+  pub fits_sum : SFits w64 (z +ℤ (diff_at ds (cell w i)).k)
+  fits_sum = fits_of (z +ℤ k) (omega (arith, add_most z k, up_small k f, v.high)) (omega (arith, add_most z k, down-small k f, v.low))
+
+  one_more : Summed ds w (i + 1) (z +ℤ k)
+  one_more = record {
+    is = ap (λ (y : ℤ). y +ℤ k) v.is
+        ∙ ap (λ (y : ℤ). Sum (map (diff_at ds) (take i w)) +ℤ y) (sym (+ℤ_idr k))
+        ∙ sym (sum_join (map (diff_at ds) (take i w)) (diff_at ds (cell w i) ∷ []))
+        ∙ ap Sum (sym (map_more (diff_at ds) w i 0 h));
+    high = omega (arith, add_most z k, up_small k f, v.high);
+    low = omega (arith, add_most z k, down-small k f, v.low);
   }
 
-  module _ (i : ℕ) (z k : ℤ) (v : Summed ks w start end i z) (h : start < i) (e : k ≡ get_or ks (cell w (i - 1)) (pos 0)) (f : SFits w32 (get_or ks (cell w (i - 1)) (pos 0))) where
-    small : (up k ≤ most_down) × (down k ≤ most_down)
-    small =
-        let g : SFits w32 k = subst (λ (y : ℤ). SFits w32 y) (sym e) f in
-        (omega (arith, up_small k g), down-small k g)
-
-    pub fits_sum : end ≤ term_places → SFits w64 (k +ℤ z)
-    fits_sum g = fits_of (k +ℤ z) (omega (arith, add_most k z, small, v.high)) (omega (arith, add_most k z, small, v.low))
-
-    pub summed-more : end ≤ term_places → end ≤ length w → Summed ks w start end (i - 1) (to_z w64 (of_z w64 (k +ℤ z)))
-    summed-more g l =
-        subst (λ (y : ℤ). Summed ks w start end (i - 1) y) (sym (to_z-of_z (fits_sum g)))
-        (record {
-          from = omega arith;
-          upto = omega (arith, v.upto);
-          is = λ xs ys. ap₂ (λ (a b : ℤ). a +ℤ b) e (v.is xs ys) ∙ ap (λ (q : List ℕ). Sum (map (diff_at xs ys ks) q)) (sym (slice-more w i end (omega arith) v.upto l));
-          high = omega (arith, add_most k z, small, v.high, v.upto);
-          low = omega (arith, add_most k z, small, v.low, v.upto);
-        })
+  -- the code's step, r being the bound as it is read
+  pub summed-more : (r : ℤ) → r ≡ to_z w32 (of_z w32 (diff_at ds (cell w i)).k) → Summed ds w (i + 1) (to_z w64 (of_z w64 (z +ℤ to_z w64 (of_z w64 r))))
+  summed-more r e =
+      let b : to_z w64 (of_z w64 r) ≡ k = ap (λ (y : ℤ). to_z w64 (of_z w64 y)) (e ∙ to_z-of_z f) ∙ to_z-of_z {w = w64} (sfits_widen {w = w32} {w' = w64} tt f) in
+      subst (λ (y : ℤ). Summed ds w (i + 1) (to_z w64 (of_z w64 (z +ℤ y)))) (sym b)
+      (subst (λ (y : ℤ). Summed ds w (i + 1) y) (sym (to_z-of_z fits_sum)) one_more)

@@ -3,14 +3,18 @@ use mathlib.Core.Path.{◌≡◌, refl, ap, subst, sym, ◌∙◌}
 use mathlib.Core.List.{List, [], ◌∷◌, map}
 use Prim.Native.Nat.{ℕ, zero, suc, ◌+◌, ◌-◌, ◌≤◌, ◌<◌}
 use native.Mathlib.Omega.{arith}
-use lib.ListN.{length, set, take, drop, length-drop, length-map}
-use lib.Seq.{slice, get_or-drop, drop-length}
+use lib.ListN.{length, set, take, drop, length-take, length-drop, length-map}
+use lib.Seq.{take_all, get_or-take}
+use borrow.Rule.Slice.PartMut.{mid_of}
+use Rattle.std.proofs.lemmas.List.{drop_all}
+use Rattle.faults.specs.inner.Places.{term_places}
+use Rattle.std.specs.Prelude.{All, Some, None}
 use Rattle.basics.specs.Lists.{NotIn}
 use Rattle.diffs.specs.Diff.{Diff, Path, NegCycle}
-use Rattle.diffs.specs.inner.Answer.{cell, Among}
-use Rattle.diffs.specs.inner.Steps.{Stuck}
+use Rattle.diffs.specs.inner.Answer.{cell, diff_at, Among}
+use Rattle.diffs.specs.declared.Difference.{Difference}
+use Rattle.diffs.specs.inner.Steps.{FoundPlace, Traced, Stuck}
 use Rattle.diffs.proofs.Names.{ys_of}
-use Rattle.diffs.proofs.Slices.{slice-take}
 use Rattle.diffs.proofs.Parents.{Back, begins, short, high, more, found}
 
 drop-set : (w : List ℕ) (j e : ℕ) → j < length w → drop j (set w j e) ≡ e ∷ drop (suc j) w
@@ -38,7 +42,7 @@ pub record Tracing (m n : ℕ) (c : ℕ → Diff) (last : ℕ) (p : List ℕ) (a
   pub st : Stuck m n c last p
   pub named : (j : ℕ) → j < m → ((c j).x < n) × ((c j).y < n)
   pub back : Back m c st.b 0 st.t (cell p) st.s st.inv n last named a (map c l)
-  pub numbers : (k : ℕ) → k < length l → cell l k < m
+  pub numbers : All (λ i. i < m) l
 
 module _ (m n : ℕ) (c : ℕ → Diff) (last : ℕ) (p : List ℕ) where
   started : Stuck m n c last p → ((j : ℕ) → j < m → ((c j).x < n) × ((c j).y < n)) → Tracing m n c last p last []
@@ -46,11 +50,12 @@ module _ (m n : ℕ) (c : ℕ → Diff) (last : ℕ) (p : List ℕ) where
     st = st;
     named = nm;
     back = begins m c st.b 0 st.t (cell p) st.s st.inv n last nm st.name st.late;
-    numbers = λ k h. let z : ⊥ = omega arith in absurd z;
+    numbers = λ k d h. let z : ⊥ = omega arith in absurd z;
   }
 
-  pub started_at : (w : List ℕ) → Stuck m n c last p → ((j : ℕ) → j < m → ((c j).x < n) × ((c j).y < n)) → Tracing m n c last p last (drop (length w) w)
-  started_at w st nm = subst (λ (l : List ℕ). Tracing m n c last p last l) (sym (drop-length w)) (started st nm)
+  -- nothing stands in w yet
+  pub started_at : (w : List ℕ) (k : ℕ) → length w ≤ k → Stuck m n c last p → ((j : ℕ) → j < m → ((c j).x < n) × ((c j).y < n)) → Tracing m n c last p last (drop k w)
+  started_at w k h st nm = subst (λ (l : List ℕ). Tracing m n c last p last l) (sym (drop_all k w h)) (started st nm)
 
   module _ (a : ℕ) (l : List ℕ) (g : Tracing m n c last p a l) where
     -- a was seen at place k
@@ -82,38 +87,49 @@ module _ (m n : ℕ) (c : ℕ → Diff) (last : ℕ) (p : List ℕ) where
             numbers = numbers';
           }
         where
-          numbers' : (k : ℕ) → k < suc (length l) → cell (cell p a ∷ l) k < m
-          numbers' zero h = parent
-          numbers' (suc k) h = g.numbers k (omega arith)
+          numbers' : All (λ i. i < m) (cell p a ∷ l)
+          numbers' zero d h = parent
+          numbers' (suc k) d h = g.numbers k d (omega arith)
 
 -- ---- l as what stands in w from place s on
 
-module _ (m n : ℕ) (c : ℕ → Diff) (last : ℕ) (p w : List ℕ) (a s : ℕ) (room : s ≤ length w) (g : Tracing m n c last p a (drop s w)) where
-  pub number_at : (k : ℕ) → s ≤ k → k < length w → cell w k < m
-  number_at k h j =
-      let e : s + (k - s) ≡ k = omega arith in
-      subst (λ (i : ℕ). i < m) (get_or-drop s w (k - s) 0 ∙ ap (cell w) e) (g.numbers (k - s) (omega (arith, length-drop s w)))
+module _ (ds : List Difference) (last : ℕ) (p w : List ℕ) (a s : ℕ) (long : length w ≡ term_places) (g : Tracing (length ds) term_places (diff_at ds) last p a (drop s w)) where
+  -- w from place s on, as the code reads it
+  abbrev read : List ℕ
+  read = mid_of s (term_places - s) w
 
-  pub twice_at : (q : ℕ) → s ≤ q → q < length w → (c (cell w q)).y ≡ a → NegCycle (Among m c) (map c (slice s (q + 1) w))
-  twice_at q h j e =
-      let f : s + (q - s) ≡ q = omega arith in
-      let z : q + 1 - s ≡ suc (q - s) = omega arith in
-      subst (λ (l : List ℕ). NegCycle (Among m c) (map c l)) (sym (slice-take s (q + 1) w (omega arith) ∙ ap (λ (i : ℕ). take i (drop s w)) z))
-      (twice m n c last p a (drop s w) g (q - s) (omega (arith, length-drop s w)) (ap (λ (i : ℕ). (c i).y) (get_or-drop s w (q - s) 0 ∙ ap (cell w) f) ∙ e))
+  read_is : read ≡ drop s w
+  read_is = take_all (term_places - s) (drop s w) (omega (arith, length-drop s w))
 
-  module _ (unseen : (k : ℕ) → s ≤ k → k < length w → (c (cell w k)).y ≡ a → ⊥) where
-    unseen' : (k : ℕ) → k < length (drop s w) → (c (cell (drop s w) k)).y ≡ a → ⊥
-    unseen' k h e = unseen (s + k) (omega arith) (omega (arith, length-drop s w)) (ap (λ (i : ℕ). (c i).y) (sym (get_or-drop s w k 0)) ∙ e)
+  -- a name came twice: the walk up to behind its place
+  pub walked : (q : ℕ) → FoundPlace ds read a (Some q) → Traced ds (mid_of s (s + q + 1 - s) w)
+  walked q f =
+      let h : FoundPlace ds (drop s w) a (Some q) = subst (λ (l : List ℕ). FoundPlace ds l a (Some q)) read_is f in
+      let e : suc q ≡ s + q + 1 - s = omega arith in
+      subst (λ (i : ℕ). Traced ds (mid_of s i w)) e
+      (record {
+        numbers = record {
+          some = omega (arith, h.0, length-take (suc q) (drop s w));
+          short = omega (arith, length-take (suc q) (drop s w), length-drop s w);
+          numbers = λ k d j. let b : k < suc q = omega (arith, length-take (suc q) (drop s w)) in
+              rw (get_or-take (suc q) (drop s w) k d b) (g.numbers k d (omega (arith, h.0)));
+        };
+        negative = twice (length ds) term_places (diff_at ds) last p a (drop s w) g q h.0 h.1;
+      })
 
-    pub room_left : n ≤ length w → 0 < s
-    room_left h = omega (arith, length-drop s w, fewer m n c last p a (drop s w) g unseen')
+  module _ (f : FoundPlace ds read a None) where
+    unseen : (k : ℕ) → k < length (drop s w) → (diff_at ds (cell (drop s w) k)).y ≡ a → ⊥
+    unseen = subst (λ (l : List ℕ). FoundPlace ds l a None) read_is f
 
-    pub parent_at : cell p a < m
-    parent_at = parent m n c last p a (drop s w) g unseen'
+    pub room_left : s ≤ term_places → 0 < s
+    room_left h = omega (arith, length-drop s w, fewer (length ds) term_places (diff_at ds) last p a (drop s w) g unseen)
 
-    pub onward_at : 0 < s → Tracing m n c last p (c (cell p a)).x (drop (s - 1) (set w (s - 1) (cell p a)))
-    onward_at h =
+    pub parent_at : cell p a < length ds
+    parent_at = parent (length ds) term_places (diff_at ds) last p a (drop s w) g unseen
+
+    pub onward_at : 0 < s → s ≤ term_places → Tracing (length ds) term_places (diff_at ds) last p (diff_at ds (cell p a)).x (drop (s - 1) (set w (s - 1) (cell p a)))
+    onward_at h r =
         let e : suc (s - 1) ≡ s = omega arith in
-        subst (λ (l : List ℕ). Tracing m n c last p (c (cell p a)).x l)
+        subst (λ (l : List ℕ). Tracing (length ds) term_places (diff_at ds) last p (diff_at ds (cell p a)).x l)
         (sym (drop-set w (s - 1) (cell p a) (omega arith) ∙ ap (λ (i : ℕ). cell p a ∷ drop i w) e))
-        (onward m n c last p a (drop s w) g unseen')
+        (onward (length ds) term_places (diff_at ds) last p a (drop s w) g unseen)

@@ -20,7 +20,7 @@ path_parts a (d ∷ l) r z p =
     let q = path_parts d.y l r z p.1 in
     (q.0, (p.0, q.1), q.2)
 
-sum_join : (l r : List Diff) → Sum (l ++ r) ≡ Sum l +ℤ Sum r
+pub sum_join : (l r : List Diff) → Sum (l ++ r) ≡ Sum l +ℤ Sum r
 sum_join [] r = sym (+ℤ_idl (Sum r))
 sum_join (d ∷ l) r = ap (λ (z : ℤ). d.k +ℤ z) (sum_join l r) ∙ sym (+ℤ_assoc d.k (Sum l) (Sum r))
 

@@ -1,48 +1,60 @@
 // The earliest times that keep differences x - y ≤ k, or a negative cycle.
-// Difference number i is xs[i] - ys[i] ≤ ks[i]. A cycle is shown from its smallest keys[i] on, and labels[i] is the number that shows the difference.
+// A cycle is shown from its smallest keys[i] on, and labels[i] is the number that shows difference number i; they are slices of
+// their own, since a caller may lend one slice as both.
 #![tactic(auto)]
 
-ghost use Rattle.std.specs.Prelude.{◌≡◌, List, map, ℕ, ◌-◌, ◌<◌, ◌≤◌, ◌^◌, min, length};
-ghost use Rattle.std.proofs.Math.Seq.{slice};
+ghost use Rattle.std.specs.Prelude.{◌≡◌, All, map, ◌++◌, drop, ◌<◌, ◌≤◌, ◌^◌, length};
 ghost use Rattle.faults.specs.inner.Places.{term_places};
 ghost use Rattle.diffs.specs.Diff.{Sum};
-ghost use Rattle.diffs.specs.inner.Answer.{cell, diff_at, Given, Decided};
-ghost use Rattle.diffs.specs.inner.Steps.{up, down};
+ghost use Rattle.diffs.specs.inner.Answer.{cell, said, diff_at, Given, Decided};
+ghost use Rattle.diffs.specs.inner.Steps.{up, down, most_down};
 ghost use Rattle.diffs.specs.inner.Steps.{Relaxed, Underway, RoundUpTo, Fresh, SettledOrStuck};
 ghost use Rattle.diffs.specs.inner.Steps.{FoundPlace, Traceable, Traced, Numbers, LeastKey, Laid};
 
 use faults::{TERM_PLACES, TermNo};
 
+// The difference x - y ≤ k.
+#[derive(Clone, Copy, Debug, PartialEq, Eq)]
+pub struct Difference {
+    pub x: TermNo,
+    pub y: TermNo,
+    pub k: i32,
+}
+
+impl Difference {
+    // 0 - 0 ≤ 0, which fills a slice before differences are stored in it.
+    pub const ZERO: Difference = Difference {
+        x: TermNo(0),
+        y: TermNo(0),
+        k: 0,
+    };
+}
+
 // What the bound k adds: k, or 0 where it is below 0.
 fn up_of(k: i32) -> u64
     ensures { result ≡ up k }
 {
-    if k < 0 { 0 } else { k as u64 }
+    u64::from(k.max(0).unsigned_abs())
 }
 
 // What the bound k takes away: -k, or 0 where it is not below 0.
 fn down_of(k: i32) -> u64
     ensures { result ≡ down k }
 {
-    if k < 0 {
-        let z = k as i64;
-        (0 - z) as u64
-    } else {
-        0
-    }
+    u64::from(k.min(0).unsigned_abs())
 }
 
-// Whether x - y ≤ k, the difference of number i, was not kept: then y is raised to x - k, and i becomes its parent.
-fn relax(x: TermNo, y: TermNo, k: i32, i: u32, t: &mut [u64], p: &mut [u32]) -> bool
-    requires x_in_bounds { (x.0 < length t.old) × (y.0 < length t.old) × (length p.old ≡ length t.old) }
-    requires x_bound { (cell t.old x.0 < 2 ^ 62) × (cell t.old y.0 < 2 ^ 62) }
-    ensures { Relaxed result (record { x = x.0; y = y.0; k = k }) i t.old p.old t.new p.new }
+// Whether the difference d, of number i, was not kept: then its y is raised to x - k, and i becomes its parent.
+fn relax(d: Difference, i: u32, t: &mut [u64; TERM_PLACES], p: &mut [u32; TERM_PLACES]) -> bool
+    requires named { (d.x.0 < term_places) × (d.y.0 < term_places) }
+    requires bound { (cell t.old d.x.0 < 2 ^ 62) × (cell t.old d.y.0 < 2 ^ 62) }
+    ensures step { Relaxed result (said d) i t.old p.old t.new p.new }
+    ensures small { down d.k ≤ most_down }
 {
-    let from = x.0 as usize;
-    let to = y.0 as usize;
-    let u = up_of(k);
-    let d = down_of(k);
-    let a = t[from] + d;
+    let from = d.x.0 as usize;
+    let to = d.y.0 as usize;
+    let u = up_of(d.k);
+    let a = t[from] + down_of(d.k);
     let b = t[to] + u;
     if b < a {
         t[to] = a - u;
@@ -53,198 +65,141 @@ fn relax(x: TermNo, y: TermNo, k: i32, i: u32, t: &mut [u64], p: &mut [u32]) -> 
     }
 }
 
-// What was raised last: nothing, or a name.
-#[derive(Clone, Copy)]
-enum Raised {
-    Quiet,
-    Name(TermNo),
-}
-
 // What a round raised last, which relaxes each difference once.
-fn round(xs: &[u32], ys: &[u32], ks: &[i32], t: &mut [u64], p: &mut [u32]) -> Raised
-    requires { Underway xs.now ys.now ks.now t.old p.old }
-    ensures { RoundUpTo (length ks.now) (length t.old) (diff_at xs.now ys.now ks.now) (length ks.now) result t.old p.old t.new p.new }
+fn round(
+    differences: &[Difference],
+    t: &mut [u64; TERM_PLACES],
+    p: &mut [u32; TERM_PLACES],
+) -> Option<TermNo>
+    requires { Underway differences.now t.old p.old }
+    ensures { RoundUpTo differences.now (length differences.now) result t.old p.old t.new p.new }
 {
-    let mut last = Raised::Quiet;
-    let mut i: usize = 0;
-    while i < ks.len() {
-        let x = xs[i];
-        let y = ys[i];
-        if relax(TermNo(x), TermNo(y), ks[i], i as u32, t, p) {
-            last = Raised::Name(TermNo(y));
+    let mut last = None;
+    for (i, d) in differences.iter().enumerate() {
+        if relax(*d, i as u32, t, p) {
+            last = Some(d.y);
         }
-        i += 1;
     }
     last
 }
 
-// The smaller of two counts.
-fn fewer(a: usize, b: usize) -> usize
-    ensures { result ≡ min a b }
+// None: t has the earliest times. Or a name: it was raised in the round after as many rounds as the fewer of names and differences.
+fn settle(
+    differences: &[Difference],
+    t: &mut [u64; TERM_PLACES],
+    p: &mut [u32; TERM_PLACES],
+) -> Option<TermNo>
+    requires { Fresh differences.now t.old }
+    ensures { SettledOrStuck differences.now result t.new p.new }
 {
-    if a < b { a } else { b }
-}
-
-// Nothing: t has the earliest times. Or a name: it was raised in the round after as many rounds as the fewer of names and differences.
-fn settle(xs: &[u32], ys: &[u32], ks: &[i32], t: &mut [u64], p: &mut [u32]) -> Raised
-    requires { Fresh xs.now ys.now ks.now t.old p.old }
-    ensures { SettledOrStuck (length ks.now) (length t.old) (diff_at xs.now ys.now ks.now) result t.new p.new }
-{
-    let n = t.len();
-    let most = fewer(n, ks.len());
-    let mut last = Raised::Quiet;
-    let mut r: usize = 0;
-    while r <= most {
-        last = round(xs, ys, ks, t, p);
-        if let Raised::Quiet = last {
-            return Raised::Quiet;
-        }
-        r += 1;
+    let most = TERM_PLACES.min(differences.len());
+    for _ in 0..most {
+        round(differences, t, p)?;
     }
-    last
+    round(differences, t, p)
 }
 
-// The first place of w, from `from` on, whose difference raises a; the length of w where there is none.
-fn find(ys: &[u32], w: &[u32], from: usize, a: TermNo) -> usize
-    requires { (from ≤ length w.now) × ((k : ℕ) → from ≤ k → k < length w.now → cell w.now k < length ys.now) }
-    ensures { FoundPlace ys.now w.now from a.0 result }
+// The first place of a walk whose difference raises a; None where there is none.
+fn find(differences: &[Difference], walk: &[u32], a: TermNo) -> Option<usize>
+    requires { All (λ i. i < length differences.now) walk.now }
+    ensures { FoundPlace differences.now walk.now a.0 result }
 {
-    let mut q = from;
-    while q < w.len() {
-        let e = w[q] as usize;
-        if ys[e] == a.0 {
-            return q;
-        }
-        q += 1;
-    }
-    q
+    walk.iter().position(|e| differences[*e as usize].y == a)
 }
 
-// The sum of the bounds that a part of w lists.
-fn sum_of(ks: &[i32], w: &[u32], start: usize, end: usize) -> i64
-    requires { Numbers (length ks.now) w.now start end × (end ≤ term_places) }
-    ensures { (xs ys : List ℕ) → result ≡ Sum (map (diff_at xs ys ks.now) (slice start end w.now)) }
+// The part of w where a negative cycle stands: it follows the parents from `last` until a name comes twice.
+fn trace<'a>(
+    differences: &[Difference],
+    p: &[u32; TERM_PLACES],
+    last: TermNo,
+    w: &'a mut [u32; TERM_PLACES],
+) -> &'a [u32]
+    requires { Traceable differences.now p.now last.0 }
+    ensures { Traced differences.now result.now }
+{
+    let mut a = last;
+    let mut start = TERM_PLACES;
+    loop {
+        if let Some(q) = find(differences, &w[start..], a) {
+            let end = start + q + 1;
+            return &w[start..end];
+        }
+        let e = p[a.0 as usize];
+        start -= 1;
+        w[start] = e;
+        a = differences[e as usize].x;
+    }
+}
+
+// The sum of the bounds that a walk lists.
+fn sum_of(differences: &[Difference], walk: &[u32]) -> i64
+    requires { Numbers (length differences.now) walk.now }
+    ensures { result ≡ Sum (map (diff_at differences.now) walk.now) }
 {
     let mut sum: i64 = 0;
-    let mut i = end;
-    while start < i {
-        i -= 1;
-        let e = w[i] as usize;
-        let k = ks[e] as i64;
-        sum = k + sum;
+    for e in walk {
+        sum += i64::from(differences[*e as usize].k);
     }
     sum
 }
 
-// A part of a slice, from a place to before another, and the sum of the bounds that it lists.
-#[derive(Clone, Copy)]
-struct Walk {
-    start: usize,
-    end: usize,
-    sum: i64,
-}
-
-// The part of w where a negative cycle stands: it follows the parents from `last` until a name comes twice.
-fn trace(xs: &[u32], ys: &[u32], ks: &[i32], p: &[u32], last: TermNo, w: &mut [u32]) -> Walk
-    requires { Traceable xs.now ys.now ks.now p.now w.old last.0 }
-    ensures { Traced (length ks.now) (diff_at xs.now ys.now ks.now) w.new result.start result.end result.sum }
+// The place of a walk whose key is the smallest.
+fn least(keys: &[u32], walk: &[u32]) -> usize
+    requires { Numbers (length keys.now) walk.now }
+    ensures { LeastKey keys.now walk.now result }
 {
-    let top = w.len();
-    let mut a = last;
-    let mut start = top;
-    loop {
-        let q = find(ys, w, start, a);
-        if q < top {
-            let end = q + 1;
-            let sum = sum_of(ks, w, start, end);
-            return Walk { start, end, sum };
-        }
-        let at = a.0 as usize;
-        let e = p[at];
-        start -= 1;
-        w[start] = e;
-        let x = xs[e as usize];
-        a = TermNo(x);
-    }
-}
-
-// The place in a part of w whose key is the smallest.
-fn least(keys: &[u32], w: &[u32], start: usize, end: usize) -> usize
-    requires { Numbers (length keys.now) w.now start end }
-    ensures { LeastKey keys.now w.now start end result }
-{
-    let mut q = start;
-    let mut i = start + 1;
-    while i < end {
-        let a = w[i] as usize;
-        let b = w[q] as usize;
-        if keys[a] < keys[b] {
+    let mut q = 0;
+    for (i, e) in walk.iter().enumerate() {
+        if keys[*e as usize] < keys[walk[q] as usize] {
             q = i;
         }
-        i += 1;
     }
     q
 }
 
-// The length of a part of w, whose labels now stand in the room's first places, from the smallest key on and round to it.
-fn lay(keys: &[u32], labels: &[u32], w: &[u32], start: usize, end: usize, room: &mut [u32]) -> usize
-    requires numbers { Numbers (length keys.now) w.now start end × (length labels.now ≡ length keys.now) }
-    requires start_in_bounds { end - start ≤ length room.old }
-    ensures { Laid keys.now labels.now w.now start end room.old room.new result }
+// The labels of a part of a walk now stand in the room's first places.
+fn show(labels: &[u32], part: &[u32], room: &mut [u32])
+    requires { All (λ i. i < length labels.now) part.now × (length part.now ≤ length room.old) }
+    ensures { room.new ≡ map (cell labels.now) part.now ++ drop (length part.now) room.old }
 {
-    let q = least(keys, w, start, end);
-    let n = end - start;
-    let mut j: usize = 0;
-    while j < n {
-        let far = q + j;
-        let mut s = far;
-        if end <= far {
-            s = far - n;
-        }
-        let e = w[s] as usize;
-        room[j] = labels[e];
-        j += 1;
+    for (j, e) in part.iter().enumerate() {
+        room[j] = labels[*e as usize];
     }
-    n
 }
 
-// What `decide` found.
-#[derive(Clone, Copy)]
-pub enum Outcome {
-    // The earliest times stand in t.
-    Times,
-    // The labels of a negative cycle stand in so many first places of the room.
-    Cycle(u32),
+// The length of a walk, whose labels now stand in the room's first places, from the smallest key on and round to it.
+fn lay(keys: &[u32], labels: &[u32], walk: &[u32], room: &mut [u32]) -> usize
+    requires numbers { Numbers (length keys.now) walk.now × (length labels.now ≡ length keys.now) }
+    requires start_in_bounds { length walk.now ≤ length room.old }
+    ensures { Laid keys.now labels.now walk.now room.old room.new result }
+{
+    let q = least(keys, walk);
+    let n = walk.len() - q;
+    show(labels, &walk[q..], room);
+    show(labels, &walk[..q], &mut room[n..]);
+    walk.len()
 }
 
-// The earliest times, or a negative cycle where no times keep the differences.
+// None: t has the earliest times. Or a number: the labels of a negative cycle stand in so many first places of the room.
 pub fn decide(
-    xs: &[u32],
-    ys: &[u32],
-    ks: &[i32],
+    differences: &[Difference],
     keys: &[u32],
     labels: &[u32],
-    t: &mut [u64],
+    t: &mut [u64; TERM_PLACES],
     room: &mut [u32],
-) -> Outcome
-    requires { Given xs.now ys.now ks.now keys.now labels.now t.old room.old }
-    ensures { Decided result (length ks.now) (diff_at xs.now ys.now ks.now) keys.now labels.now t.new room.old room.new }
+) -> Option<u32>
+    requires { Given differences.now keys.now labels.now t.old room.old }
+    ensures { Decided result (length differences.now) (diff_at differences.now) keys.now labels.now t.new room.old room.new }
 {
     let mut p = [0u32; TERM_PLACES];
-    let raised = settle(xs, ys, ks, t, &mut p);
-    let Raised::Name(last) = raised else {
-        return Outcome::Times;
-    };
+    let last = settle(differences, t, &mut p)?;
     let mut w = [0u32; TERM_PLACES];
-    let c = trace(xs, ys, ks, &p, last, &mut w);
-    let start = c.start;
-    let end = c.end;
-    let sum = c.sum;
+    let walk = trace(differences, &p, last, &mut w);
+    let sum = sum_of(differences, walk);
     if sum < 0 {
-        let n = lay(keys, labels, &w, start, end, room);
-        let count = n as u32;
-        return Outcome::Cycle(count);
+        let n = lay(keys, labels, walk, room);
+        return Some(n as u32);
     }
     // Not reached: the bounds of the cycle found sum below zero.
-    Outcome::Times
+    None
 }

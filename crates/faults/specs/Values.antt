@@ -1,10 +1,10 @@
--- Believed: the number of each kind, docs/RULES.md, 'Verdicts', and the answer that each case of a step stands for. Assumes nothing.
-use Rattle.std.specs.Prelude.{ℕ}
+-- Believed: the number of each kind, docs/RULES.md, 'Verdicts', what a kind is found by, and the answer that a result stands for. Assumes nothing.
+use Rattle.std.specs.Prelude.{ℕ, ◌≡◌, ◌≢◌, Result, Ok, Err}
 use Rattle.faults.specs.Answer.{Answer, got, refused}
 use Rattle.faults.specs.declared.Kind.{Kind}
 use Rattle.faults.specs.declared.Kind.TheVariants.{Room, Long, Grammar, Carried, Bounds, Twice, Unknown, Second, NoDifference, Candidate, Broken, Unfounded, Cycle, Late, NotTable, NotNamed}
-use Rattle.faults.specs.declared.Step.{Step}
-use Rattle.faults.specs.declared.Step.TheVariants.{Good, Refused}
+use Rattle.faults.specs.declared.NoKind.{NoKind}
+use Rattle.faults.specs.declared.Refusal.{Refusal}
 
 abbrev pub number : Kind → ℕ
 number Room = 1
@@ -24,6 +24,12 @@ number Late = 11
 number NotTable = 20
 number NotNamed = 21
 
-abbrev pub as_step : Step → Answer ℕ
-as_step (Good n) = got n
-as_step (Refused r) = refused (number r.kind) r.place
+-- what is found of a number: the kind that has it, or that none has it
+abbrev pub Numbered : ℕ → Result Kind NoKind → Type 0
+Numbered n (Ok kind) = n ≡ number kind
+Numbered n (Err e) = (kind : Kind) → n ≢ number kind
+
+-- the answer that a result stands for
+abbrev pub as_answer : {A : Type 0} → Result A Refusal → Answer A
+as_answer (Ok a) = got a
+as_answer (Err r) = refused (number r.kind) r.place

@@ -1,9 +1,11 @@
 // The vocabulary of docs/RULES.md: the kinds of refusal, a refusal with its place, the three countings.
 #![tactic(auto)]
 
-ghost use Rattle.std.specs.Prelude.{◌≡◌, false};
-ghost use Rattle.faults.specs.Answer.{is_got, refused};
-ghost use Rattle.faults.specs.Values.{number, as_step};
+ghost use Rattle.std.specs.Prelude.{◌≡◌};
+ghost use Rattle.faults.specs.Values.{number, Numbered};
+
+use std::error::Error;
+use std::fmt;
 
 // The bytes of the longest text.
 pub const LONGEST_TEXT: usize = 60000;
@@ -48,24 +50,24 @@ pub const TERM_PLACES: usize = 1024;
 pub const ELEMENT_PLACES: usize = 1024;
 
 // One case a number of the table of verdicts: 1 to 5, 61 to 64 and 7 to 11, then 20 and 21 of the timetable's reader.
-#[derive(Clone, Copy)]
+#[derive(Clone, Copy, Debug, PartialEq, Eq)]
 pub enum Kind {
-    Room,
-    Long,
-    Grammar,
-    Carried,
-    Bounds,
-    Twice,
-    Unknown,
-    Second,
-    NoDifference,
-    Candidate,
-    Broken,
-    Unfounded,
-    Cycle,
-    Late,
-    NotTable,
-    NotNamed,
+    Room = 1,
+    Long = 2,
+    Grammar = 3,
+    Carried = 4,
+    Bounds = 5,
+    Twice = 61,
+    Unknown = 62,
+    Second = 63,
+    NoDifference = 64,
+    Candidate = 7,
+    Broken = 8,
+    Unfounded = 9,
+    Cycle = 10,
+    Late = 11,
+    NotTable = 20,
+    NotNamed = 21,
 }
 
 impl Kind {
@@ -73,65 +75,81 @@ impl Kind {
     pub fn number(self) -> u32
         ensures { result ≡ number self }
     {
-        match self {
-            Kind::Room => 1,
-            Kind::Long => 2,
-            Kind::Grammar => 3,
-            Kind::Carried => 4,
-            Kind::Bounds => 5,
-            Kind::Twice => 61,
-            Kind::Unknown => 62,
-            Kind::Second => 63,
-            Kind::NoDifference => 64,
-            Kind::Candidate => 7,
-            Kind::Broken => 8,
-            Kind::Unfounded => 9,
-            Kind::Cycle => 10,
-            Kind::Late => 11,
-            Kind::NotTable => 20,
-            Kind::NotNamed => 21,
+        self as u32
+    }
+
+    // The refusal of this kind at a place.
+    pub fn at(self, place: usize) -> Refusal
+        ensures { result ≡ record { kind = self; place = place } }
+    {
+        Refusal { kind: self, place }
+    }
+}
+
+// A number that is of no kind.
+#[derive(Clone, Copy, Debug, PartialEq, Eq)]
+pub struct NoKind(pub u32);
+
+impl TryFrom<u32> for Kind {
+    type Error = NoKind;
+
+    ghost try_from_gives = { Numbered };
+
+    // The kind of a number.
+    fn try_from(number: u32) -> Result<Kind, NoKind> {
+        match number {
+            1 => Ok(Kind::Room),
+            2 => Ok(Kind::Long),
+            3 => Ok(Kind::Grammar),
+            4 => Ok(Kind::Carried),
+            5 => Ok(Kind::Bounds),
+            61 => Ok(Kind::Twice),
+            62 => Ok(Kind::Unknown),
+            63 => Ok(Kind::Second),
+            64 => Ok(Kind::NoDifference),
+            7 => Ok(Kind::Candidate),
+            8 => Ok(Kind::Broken),
+            9 => Ok(Kind::Unfounded),
+            10 => Ok(Kind::Cycle),
+            11 => Ok(Kind::Late),
+            20 => Ok(Kind::NotTable),
+            21 => Ok(Kind::NotNamed),
+            _ => Err(NoKind(number)),
         }
     }
 }
 
+impl fmt::Display for NoKind {
+    fn fmt<W: fmt::Write>(&self, f: &mut fmt::Formatter<W>) -> fmt::Result {
+        write!(f, "no refusal has number {}", self.0)
+    }
+}
+
+impl Error for NoKind {}
+
 // Why something is refused, and where.
-#[derive(Clone, Copy)]
+#[derive(Clone, Copy, Debug, PartialEq, Eq)]
 pub struct Refusal {
     pub kind: Kind,
     pub place: usize,
 }
 
+impl fmt::Display for Refusal {
+    fn fmt<W: fmt::Write>(&self, f: &mut fmt::Formatter<W>) -> fmt::Result {
+        write!(f, "refused {} {}", self.kind.number(), self.place)
+    }
+}
+
+impl Error for Refusal {}
+
 // The number of an atom.
-#[derive(Clone, Copy)]
+#[derive(Clone, Copy, Debug, PartialEq, Eq, PartialOrd, Ord)]
 pub struct AtomNo(pub u32);
 
 // The number of a term.
-#[derive(Clone, Copy)]
+#[derive(Clone, Copy, Debug, PartialEq, Eq, PartialOrd, Ord)]
 pub struct TermNo(pub u32);
 
 // The number of an element.
-#[derive(Clone, Copy)]
+#[derive(Clone, Copy, Debug, PartialEq, Eq, PartialOrd, Ord)]
 pub struct ElementNo(pub u32);
-
-// What a layer answers: a number, or a refusal.
-#[derive(Clone, Copy)]
-pub enum Step {
-    Good(usize),
-    Refused(Refusal),
-}
-
-impl Step {
-    // The refusal of an answer that is one.
-    pub fn refusal(self) -> Refusal
-        requires { is_got (as_step self) ≡ false }
-        ensures { as_step self ≡ refused (number result.kind) result.place }
-    {
-        match self {
-            Step::Good(n) => Refusal {
-                kind: Kind::Grammar,
-                place: n,
-            },
-            Step::Refused(r) => r,
-        }
-    }
-}

@@ -136,3 +136,6 @@ two_digits (b ∷ []) h e = go (eqb b zero_digit) refl (leb zero_digit b) refl (
     go false p true q false r i = let z : ◌≡◌ {A = ℕ} 0 1 = (cc) in absurd (omega arith)
     go false p false q w r i = let z : ◌≡◌ {A = ℕ} 0 1 = (cc) in absurd (omega arith)
 two_digits (b ∷ d ∷ bs) h e = omega arith
+
+-- what the file digits of src takes of these
+pub ruleset decimal = (digits_out, digits_stop, digits_more, value_none, value-more)

@@ -3,7 +3,8 @@ use Prim.Native.Nat.{ℕ, suc, ◌+◌, ◌≤◌, ◌<◌, min}
 use mathlib.Core.Path.{◌≡◌, refl, sym, ap, ◌∙◌}
 use mathlib.Core.List.{List, [], ◌∷◌}
 use mathlib.Core.Bool.{Bool, true, false}
-use borrow.Author.Tests.{eq-eqb, ne_eqb, eqb-true, eqb-false, le-leb, lt-leb, ltb-true, ltb-false}
+use mathlib.Core.Logic.{◌⊎◌, inl, inr}
+use borrow.Author.Tests.{eq-eqb, eqb-true, eqb-false, le-leb, lt-leb, ltb-true, ltb-false}
 use lib.Dec.{eqb, leb, ltb, lit<}
 use native.Mathlib.Omega.{arith}
 use lib.ListN.{length, get_or, drop, length-drop, get_or-eq_default}
@@ -145,10 +146,6 @@ module _ (b : ℕ) (s : List ℕ) (at : ℕ) where
   unfolding byte
   byte_there e = rw (eq-eqb _ _ e)
 
-  pub byte_other : (byte_at s at ≡ b → ⊥) → fault 3 at ≡ byte b s at
-  unfolding byte
-  byte_other n = rw (ne_eqb _ _ n)
-
   -- a byte that was read stands there
   pub byte-read : {n : ℕ} → found tt n ≡ byte b s at → (byte_at s at ≡ b) × (n ≡ at + 1)
   unfolding byte
@@ -173,6 +170,14 @@ module _ (b : ℕ) (s : List ℕ) (at : ℕ) where
       go true q = ltb-true at (length s) q
       go false q = absurd (omega (arith, byte_past s at (ltb-false at (length s) q)))
 
+-- within the text, or past it, where 0 stands
+pub byte_within : (s : List ℕ) (at : ℕ) → (byte_at s at ≡ 0) ⊎ (at < length s)
+byte_within s at = go (ltb at (length s)) refl
+  where
+    go : (t : Bool) → ltb at (length s) ≡ t → (byte_at s at ≡ 0) ⊎ (at < length s)
+    go true q = inr (ltb-true at (length s) q)
+    go false q = inl (sym (byte_past s at (ltb-false at (length s) q)))
+
 -- a return and a feed stand within the text
 pub return_there : (s : List ℕ) (at : ℕ) {t : Bool} → t ≡ return_feed s at → t ≡ true → at + 1 < length s
 return_there s at e h =
@@ -192,3 +197,9 @@ ten_far k most s at v n = go (field s at) (is_natural (field s at)) refl (leb (v
         omega (arith, two_digits f p (sym a ∙ z))
     go f true p false e z = let w : ◌≡◌ {A = ℕ} 0 1 = (cc) in absurd (omega arith)
     go f false p u e z = let w : ◌≡◌ {A = ℕ} 0 1 = (cc) in absurd (omega arith)
+
+-- what the files number, tape and ends of src take of these
+pub ruleset naturals = (byte_within, return_there, natural_bad, natural_large, natural_good)
+
+-- and what its file digits does
+pub ruleset digits = (field_out, field_stop, natural_undigit, natural_led)

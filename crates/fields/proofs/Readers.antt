@@ -255,6 +255,13 @@ pub next_weight-reads : (s : List ℕ) (at : ℕ) → Reads IsWeight s at 2 (nex
 unfolding next_weight
 next_weight-reads s at = next-reads (from_one 5 largest_weight) s at (from_one-reads 5 largest_weight by_bounds s)
 
+-- a literal and a weight that were read
+pub next_literal-within : (s : List ℕ) (at w n : ℕ) → found w n ≡ next literal s at → w / 2 ≤ last_atom
+next_literal-within s at w n e = (reads-ends (lit< tt) (next_literal-reads s at) w n e).0.1
+
+pub next_weight-within : (s : List ℕ) (at w n : ℕ) → found w n ≡ next_weight s at → w ≤ largest_weight
+next_weight-within s at w n e = (reads-ends (lit< tt) (next_weight-reads s at) w n e).0.1
+
 -- the word of both says each
 pub premise_parts : (l w : ℕ) → IsAtom (l / 2) → ((weight_unit * w + l) % weight_unit ≡ l) × ((weight_unit * w + l) / weight_unit ≡ w)
 premise_parts l w h = (omega (arith, h.1), omega (arith, h.1))
@@ -288,6 +295,10 @@ item-reads of.Term s at = reads_so (λ v h. h) (omega arith) (next_term-reads s 
 item-reads of.Element s at = reads_so (λ v h. h) (omega arith) (next_element-reads s at)
 item-reads of.Char s at = char-reads s at
 
+-- an item that was read
+pub item-within : (what : Item) (s : List ℕ) (at x n : ℕ) → found x n ≡ item what s at → (at < n) × (n ≤ length s)
+item-within what s at x n e = let h = reads-ends (lit< tt) (item-reads what s at) x n e in (omega arith, h.2)
+
 pub items-reads : (what : Item) (n : ℕ) (s : List ℕ) (at : ℕ) → Reads (λ xs. All (ItemKept s what) xs × (length xs ≡ n)) s at n (items what n s at)
 unfolding items
 items-reads what zero s at = reads-found (tt, refl)
@@ -312,3 +323,6 @@ string-reads s at =
 pub rest-reads : (e : LineEnd) (s : List ℕ) (at : ℕ) → Reads (All (ByteOf s)) s at 0 (rest e s at)
 unfolding rest
 rest-reads e s at = reads_so (λ bs h. h.0) (omega arith) (items-reads of.Char (rest_length e s at) s at)
+
+-- what the files number and tape of src take of these
+pub ruleset within = (natural-within, next_natural-within, next_literal-within, next_weight-within, item-within)

@@ -1,5 +1,5 @@
 -- Laws of the bytes before the first place at which what follows ends them, one step of them at a place of the text. Assumes nothing.
-use Prim.Native.Nat.{ℕ, ◌+◌, ◌≤◌, ◌<◌}
+use Prim.Native.Nat.{ℕ, ◌+◌, ◌≤◌, ◌<◌, max}
 use mathlib.Core.Path.{◌≡◌, refl, ap}
 use mathlib.Core.List.{List, [], ◌∷◌}
 use mathlib.Core.Bool.{Bool, true, false}
@@ -49,12 +49,13 @@ until-take ends (b ∷ bs) = go (ends (b ∷ bs)) (until-take ends bs)
     go true h = refl
     go false h = ap {B = List ℕ} (λ r. b ∷ r) h
 
+-- they end within the text, or where they begin
+pub until-most : (ends : List ℕ → Bool) (s : List ℕ) (at : ℕ) → at + length (until ends (drop at s)) ≤ max at (length s)
+until-most ends s at = omega (arith, until-length ends (drop at s), length-drop at s)
+
 -- from a place within the text on they end within it
 pub until-within : (ends : List ℕ → Bool) (s : List ℕ) (at : ℕ) → at ≤ length s → at + length (until ends (drop at s)) ≤ length s
-until-within ends s at h = omega (arith, until-length ends (drop at s), length-drop at s)
+until-within ends s at h = omega (arith, until-most ends s at)
 
--- two tests that agree
-pub until-same : (f g : List ℕ → Bool) → ((l : List ℕ) → f l ≡ g l) → (l : List ℕ) → until f l ≡ until g l
-unfolding until
-until-same f g h [] = refl
-until-same f g h (b ∷ bs) = rw (h (b ∷ bs), until-same f g h bs)
+-- what the files ends, digits and tape of src take of these
+pub ruleset runs = (run_out, run_stop, run_more, until-most, until-within)

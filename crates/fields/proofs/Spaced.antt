@@ -17,7 +17,7 @@ use Rattle.fields.specs.Fields.{space, minus_sign, byte_at, byte, until, ends_li
 use Rattle.fields.specs.declared.Item.{Item}
 use Rattle.fields.proofs.LineEnds.{byte_on}
 use Rattle.fields.proofs.Naturals.{there}
-use Rattle.fields.proofs.Fieldwise.{behind-next, field_last}
+use Rattle.fields.proofs.Fieldwise.{behind_more, field_last}
 
 -- what is found, and the place after it, have P
 pub data Gives {A : Type 0} (P : A → ℕ → Type 0) : Reading A → Type 0 where
@@ -108,7 +108,7 @@ from_one_gives k most s at = gives_then (natural_gives 5 most s at) (λ v n h. g
 -- a byte that is no space is passed over
 follows_behind : (s : List ℕ) (at n : ℕ) → at < length s → (byte_at s at ≡ space → ⊥) → Follows s (at + 1) 1 n → Follows s at 1 n
 unfolding field_place
-follows_behind s at n l o h e = sym (behind-next s at l o) ∙ h e
+follows_behind s at n l o h e = sym (behind_more s at l o) ∙ h e
 
 -- w stands for a natural that is read at the place, or for a number below 0
 abbrev pub Whole : (high : ℕ) → List ℕ → (at w n : ℕ) → Type 0

@@ -1,5 +1,5 @@
 -- Laws of the tape: words that were written, and what it says of the reading. Assumes nothing.
-use Prim.Native.Nat.{ℕ, zero, suc, ◌+◌, ◌-◌, ◌≤◌, ◌<◌}
+use Prim.Native.Nat.{ℕ, zero, suc, ◌+◌, ◌≤◌, ◌<◌}
 use mathlib.Core.Path.{◌≡◌, refl, sym}
 use mathlib.Core.List.{List, [], ◌∷◌, ◌++◌}
 use native.Mathlib.Omega.{arith}
@@ -32,13 +32,10 @@ module _ (what : Item) (s : List ℕ) (at : ℕ) (t : List ℕ) (o : ℕ) where
   unfolding items on_tape
   items-none left h = let e : left ≡ 0 = omega arith in rw (e, add-zero)
 
-  pub items_more : (left x n : ℕ) → 0 < left → found x n ≡ item what s at
-      → on_tape bare (set t o x) (o + 1) (items what (left - 1) s n) ≡ on_tape bare t o (items what left s at)
+  pub items_more : (left rest x n : ℕ) → left ≡ suc rest → found x n ≡ item what s at
+      → on_tape bare (set t o x) (o + 1) (items what rest s n) ≡ on_tape bare t o (items what left s at)
   unfolding items
-  items_more zero x n h e = absurd (omega arith)
-  items_more (suc k) x n h e =
-      let d : suc k - 1 ≡ k = omega arith in
-      rw (d, ← e) (sym (on_tape-cons t o x (items what k s n)))
+  items_more left rest x n d e = rw (d, ← e) (sym (on_tape-cons t o x (items what rest s n)))
 
   pub items_stop : (left k q : ℕ) → 0 < left → fault k q ≡ item what s at → fault k q ≡ on_tape bare t o (items what left s at)
   unfolding items on_tape
@@ -116,3 +113,6 @@ module _ (t : List ℕ) (o : ℕ) where
       let m = on_more ws (part b) h refl refl in
       rw (m.tape, m.next, e b)
   on_last words part make ws (fault k p) h e = refl
+
+-- what the file tape of src takes of these
+pub ruleset taping = (items-none, items_more, items_stop, counted-items)

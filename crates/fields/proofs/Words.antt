@@ -32,3 +32,6 @@ module _ (w : List ℕ) (i : ℕ) where
     pub word_stop : (k q : ℕ) → i < length w → fault k q ≡ byte (get_or w i 0) s at → fault k q ≡ bytes (drop i w) s at
     unfolding bytes
     word_stop k q h e = rw (drop-cons w i 0 h, ← e)
+
+-- what the file number of src takes of these
+pub ruleset words = (positive_more, word_out, word_more, word_stop)

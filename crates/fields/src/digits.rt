@@ -1,11 +1,13 @@
 // Bytes and digits of a text.
+#![tactic(auto, using(std::proofs::lemmas::Grind::common_steps, std::proofs::lemmas::Option::gets, crate::proofs::Naturals::digits, crate::proofs::Decimal::decimal, crate::proofs::Runs::runs), unfolding(crate::specs::Fields::byte_at, crate::specs::Fields::field))]
+
 ghost use Rattle.std.specs.Prelude.{◌≡◌, ◌+◌, ◌≤◌, min, length};
 ghost use Rattle.faults.specs.Limits.{largest_bound};
-ghost use Rattle.fields.specs.Fields.{byte_at, field, is_digit, is_empty, is_natural, value};
+ghost use Rattle.fields.specs.Fields.{byte_at, field, is_empty, is_natural, value};
 ghost use Rattle.fields.specs.inner.Digits.{digits_at};
 
 use crate::ends::{breaks_at, run_end};
-use crate::{LineEnd, NINE_DIGIT, SPACE, ZERO_DIGIT};
+use crate::{LineEnd, SPACE, ZERO_DIGIT};
 
 // The value of digits, or one more than the most that is asked where it is beyond that, and where they end.
 #[derive(Clone, Copy)]
@@ -18,7 +20,7 @@ pub(crate) struct Digits {
 pub(crate) fn peek(s: &[u8], at: usize) -> u8
     ensures { result ≡ byte_at s.now at }
 {
-    if at < s.len() { s[at] } else { 0 }
+    s.get(at).copied().unwrap_or(0)
 }
 
 // Where the field that starts at `at` ends.
@@ -32,31 +34,7 @@ pub(crate) fn field_end(s: &[u8], at: usize) -> usize
 fn ends_field(s: &[u8], at: usize) -> bool
     ensures { result ≡ is_empty (field s.now at) }
 {
-    if s.len() <= at {
-        return true;
-    }
-    breaks_at(s, at, SPACE, LineEnd::Return)
-}
-
-// Whether `b` is a digit.
-fn is_digit(b: u8) -> bool
-    ensures { result ≡ is_digit b }
-{
-    if b < ZERO_DIGIT {
-        return false;
-    }
-    b <= NINE_DIGIT
-}
-
-// `v`, or one more than `most` where it is beyond that.
-fn kept(v: u64, most: u32) -> u64
-    ensures { result ≡ min v (most + 1) }
-{
-    let bound = most as u64;
-    if bound < v {
-        return bound + 1;
-    }
-    v
+    s.len() <= at || breaks_at(s, at, SPACE, LineEnd::Return)
 }
 
 // The digits that stand at `at`.
@@ -65,24 +43,21 @@ pub(crate) fn digits_at(s: &[u8], at: usize, most: u32) -> Digits
     ensures end_value { result.end ≡ at + length (digits_at s.now at) }
     ensures value_value { result.value ≡ min (value 0 (digits_at s.now at)) (most + 1) }
 {
+    let beyond = u64::from(most) + 1;
     let mut v: u64 = 0;
-    let mut i = at;
-    while i < s.len() {
+    for i in at..s.len() {
         let b = s[i];
-        if is_digit(b) {
-            let d = b - ZERO_DIGIT;
-            v = kept(v * 10 + d as u64, most);
-            i += 1;
-        } else {
+        if !b.is_ascii_digit() {
             return Digits {
                 value: v as u32,
                 end: i,
             };
         }
+        v = (v * 10 + u64::from(b - ZERO_DIGIT)).min(beyond);
     }
     Digits {
         value: v as u32,
-        end: i,
+        end: at.max(s.len()),
     }
 }
 
@@ -91,14 +66,5 @@ pub(crate) fn is_natural(s: &[u8], at: usize, end: usize) -> bool
     requires { end ≡ at + length (digits_at s.now at) }
     ensures { result ≡ is_natural (field s.now at) }
 {
-    if end <= at {
-        return false;
-    }
-    let second = at + 1;
-    if second < end {
-        if peek(s, at) == ZERO_DIGIT {
-            return false;
-        }
-    }
-    ends_field(s, end)
+    at < end && (end <= at + 1 || peek(s, at) != ZERO_DIGIT) && ends_field(s, end)
 }

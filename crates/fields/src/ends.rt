@@ -1,6 +1,8 @@
 // Line ends, and what runs up to them.
+#![tactic(auto, using(crate::proofs::Naturals::naturals, crate::proofs::LineEnds::line_ends, crate::proofs::Runs::runs))]
+
 ghost use Rattle.std.specs.Prelude.{◌≡◌, ◌+◌, length, drop};
-ghost use Rattle.fields.specs.Fields.{return_feed, until, breaks, breaks_at, ends_line, same_end, ends_of};
+ghost use Rattle.fields.specs.Fields.{return_feed, until, breaks, breaks_at, ends_line, ends_of};
 
 use crate::digits::peek;
 use crate::{FEED, LineEnd, RETURN};
@@ -9,48 +11,37 @@ use crate::{FEED, LineEnd, RETURN};
 pub(crate) fn return_feed(s: &[u8], at: usize) -> bool
     ensures { result ≡ return_feed s.now at }
 {
-    if peek(s, at) == RETURN {
-        let next = at + 1;
-        return peek(s, next) == FEED;
-    }
-    false
+    peek(s, at) == RETURN && peek(s, at + 1) == FEED
 }
 
 // Whether a line end of either kind stands at `at`.
 fn ends_line(s: &[u8], at: usize) -> bool
     ensures { result ≡ ends_line (drop at s.now) }
 {
-    if peek(s, at) == FEED {
-        return true;
-    }
-    return_feed(s, at)
+    peek(s, at) == FEED || return_feed(s, at)
 }
 
 // Whether the byte `b` stands at `at`, or a line is over there, of a text whose lines end as `ends` says.
 pub(crate) fn breaks_at(s: &[u8], at: usize, b: u8, ends: LineEnd) -> bool
     ensures { result ≡ breaks_at b ends (drop at s.now) }
 {
-    if peek(s, at) == b {
-        return true;
-    }
-    match ends {
-        LineEnd::Feed => peek(s, at) == FEED,
-        LineEnd::Return => ends_line(s, at),
-    }
+    peek(s, at) == b
+        || match ends {
+            LineEnd::Feed => peek(s, at) == FEED,
+            LineEnd::Return => ends_line(s, at),
+        }
 }
 
 // Where what begins at `at` and goes to before the byte `b` or the end of its line is over; lines end as `ends` says.
 pub(crate) fn run_end(s: &[u8], at: usize, b: u8, ends: LineEnd) -> usize
     ensures { result ≡ at + length (until (breaks_at b ends) (drop at s.now)) }
 {
-    let mut i = at;
-    while i < s.len() {
+    for i in at..s.len() {
         if breaks_at(s, i, b, ends) {
             return i;
         }
-        i += 1;
     }
-    i
+    at.max(s.len())
 }
 
 // Where the part of a line that begins at `at` is over; lines end as `ends` says.
@@ -66,23 +57,8 @@ pub fn ends_of(s: &[u8]) -> LineEnd
 {
     let first = part_end(s, 0, LineEnd::Return);
     if peek(s, first) == RETURN {
-        return LineEnd::Return;
-    }
-    LineEnd::Feed
-}
-
-// Whether two line ends are of one kind.
-pub(crate) fn same_end(a: LineEnd, b: LineEnd) -> bool
-    ensures { result ≡ same_end a b }
-{
-    match a {
-        LineEnd::Feed => match b {
-            LineEnd::Feed => true,
-            LineEnd::Return => false,
-        },
-        LineEnd::Return => match b {
-            LineEnd::Feed => false,
-            LineEnd::Return => true,
-        },
+        LineEnd::Return
+    } else {
+        LineEnd::Feed
     }
 }

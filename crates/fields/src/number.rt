@@ -1,4 +1,6 @@
 // The fields of a line: a byte, a natural, an integer, a literal, an atom, a term number, an element number, a weight.
+#![tactic(auto, using(crate::proofs::Naturals::naturals, crate::proofs::Words::words, crate::proofs::Readers::within), unfolding(crate::specs::Fields::byte, crate::specs::Fields::line_end, crate::specs::Fields::line_end_of, crate::specs::Fields::text_end, crate::specs::Fields::next_natural, crate::specs::Fields::natural_then, crate::specs::Fields::negative, crate::specs::Fields::integer, crate::specs::Fields::next_integer, crate::specs::Fields::literal, crate::specs::Fields::from_one, crate::specs::Fields::atom, crate::specs::Fields::next_atom, crate::specs::Fields::next_term, crate::specs::Fields::next_element, crate::specs::Fields::next_weight))]
+
 ghost use Rattle.std.specs.Prelude.{◌≡◌, ◌+◌, ◌≤◌, ◌<◌, true, length};
 ghost use Rattle.faults.specs.Limits.{largest_number, largest_bound};
 ghost use Rattle.faults.specs.Values.{number};
@@ -6,11 +8,8 @@ ghost use Rattle.fields.specs.Fields.{all_positive, byte_at, byte, bytes, line_e
 ghost use Rattle.fields.specs.inner.Values.{as_passed, as_end, as_word, as_atom, as_term, as_element};
 
 use crate::digits::{digits_at, field_end, is_natural, peek};
-use crate::ends::{return_feed, same_end};
-use crate::{
-    AtomField, Cursor, ElementField, EndField, FEED, LineEnd, MINUS_SIGN, Passed, SPACE, TermField,
-    WordField,
-};
+use crate::ends::return_feed;
+use crate::{Cursor, FEED, Field, LineEnd, MINUS_SIGN, SPACE};
 use faults::{
     AtomNo, ElementNo, Kind, LARGEST_WEIGHT, LAST_ATOM, LAST_ELEMENT, LAST_TERM, Refusal, TermNo,
 };
@@ -28,316 +27,214 @@ impl Cursor {
         requires { self.at + n < 18446744073709551616 }
         ensures { result.at ≡ self.at + n }
     {
-        let at = self.at;
-        let to = at + n;
-        Cursor { at: to }
+        Cursor { at: self.at + n }
     }
 
     // Behind the field at the cursor, whatever it is.
     pub fn past_field(self, s: &[u8]) -> Cursor
         ensures { result.at ≡ self.at + length (field s.now self.at) }
     {
-        let at = self.at;
-        let end = field_end(s, at);
-        Cursor { at: end }
+        Cursor {
+            at: field_end(s, self.at),
+        }
     }
 
     // The byte at the cursor, or 0 past the end.
     pub fn look(self, s: &[u8]) -> u8
         ensures { result ≡ byte_at s.now self.at }
     {
-        let at = self.at;
-        peek(s, at)
+        peek(s, self.at)
     }
 
     // Exactly the byte `b`, which is not 0.
-    pub fn byte(self, s: &[u8], b: u8) -> Passed
+    pub fn byte(self, s: &[u8], b: u8) -> Result<Cursor, Refusal>
         requires { 0 < b }
         ensures { as_passed result ≡ byte b s.now self.at }
     {
-        let at = self.at;
-        if peek(s, at) == b {
-            return Passed::Got(Cursor { at: at + 1 });
+        if self.look(s) == b {
+            Ok(self.ahead(1))
+        } else {
+            Err(Kind::Grammar.at(self.at))
         }
-        Passed::Refused(Refusal {
-            kind: Kind::Grammar,
-            place: at,
-        })
     }
 
     // Exactly the bytes of `word`, none of which is 0.
-    pub fn bytes(self, s: &[u8], word: &[u8]) -> Passed
+    pub fn bytes(self, s: &[u8], word: &[u8]) -> Result<Cursor, Refusal>
         requires { all_positive word.now ≡ true }
         ensures { as_passed result ≡ bytes word.now s.now self.at }
     {
         let mut c = self;
-        let mut i = 0;
-        while i < word.len() {
-            let a = c.byte(s, word[i]);
-            let Passed::Got(d) = a else {
-                return a;
-            };
-            c = d;
-            i += 1;
+        for b in word {
+            c = c.byte(s, *b)?;
         }
-        Passed::Got(c)
+        Ok(c)
     }
 
     // The line end at the cursor, and which of the two it is.
-    pub fn line_end(self, s: &[u8]) -> EndField
+    pub fn line_end(self, s: &[u8]) -> Field<LineEnd>
         ensures { as_end result ≡ line_end s.now self.at }
     {
-        let at = self.at;
-        if peek(s, at) == FEED {
-            return EndField::Got(LineEnd::Feed, Cursor { at: at + 1 });
+        if self.look(s) == FEED {
+            return Ok((LineEnd::Feed, self.ahead(1)));
         }
-        if return_feed(s, at) {
-            return EndField::Got(LineEnd::Return, Cursor { at: at + 2 });
+        if return_feed(s, self.at) {
+            return Ok((LineEnd::Return, self.ahead(2)));
         }
-        EndField::Refused(Refusal {
-            kind: Kind::Grammar,
-            place: at,
-        })
+        Err(Kind::Grammar.at(self.at))
     }
 
     // The line end at the cursor, which must be as `ends` says.
-    pub fn line_end_of(self, s: &[u8], ends: LineEnd) -> Passed
+    pub fn line_end_of(self, s: &[u8], ends: LineEnd) -> Result<Cursor, Refusal>
         ensures { as_passed result ≡ line_end_of ends s.now self.at }
     {
-        let a = self.line_end(s);
-        let EndField::Got(met, c) = a else {
-            return Passed::Refused(a.refusal());
-        };
-        if same_end(ends, met) {
-            return Passed::Got(c);
+        let (met, c) = self.line_end(s)?;
+        if met == ends {
+            Ok(c)
+        } else {
+            Err(Kind::Grammar.at(self.at))
         }
-        let at = self.at;
-        Passed::Refused(Refusal {
-            kind: Kind::Grammar,
-            place: at,
-        })
     }
 
     // The end of the text.
-    pub fn text_end(self, s: &[u8]) -> Passed
+    pub fn text_end(self, s: &[u8]) -> Result<Cursor, Refusal>
         ensures { as_passed result ≡ text_end s.now self.at }
     {
-        let at = self.at;
-        if at < s.len() {
-            return Passed::Refused(Refusal {
-                kind: Kind::Grammar,
-                place: at,
-            });
+        if self.at < s.len() {
+            return Err(Kind::Grammar.at(self.at));
         }
-        Passed::Got(self)
+        Ok(self)
     }
 
     // The natural at the cursor, at most `most`, and refused as `beyond` where it is more.
-    pub fn natural(self, s: &[u8], most: u32, beyond: Kind) -> WordField
+    pub fn natural(self, s: &[u8], most: u32, beyond: Kind) -> Field<u32>
         requires { most ≤ largest_bound }
         ensures { as_word result ≡ natural (number beyond) most s.now self.at }
     {
-        let at = self.at;
-        let d = digits_at(s, at, most);
-        let end = d.end;
-        if is_natural(s, at, end) {
-            let v = d.value;
-            if most < v {
-                return WordField::Refused(Refusal {
-                    kind: beyond,
-                    place: at,
-                });
-            }
-            return WordField::Got(v, Cursor { at: end });
+        let digits = digits_at(s, self.at, most);
+        if !is_natural(s, self.at, digits.end) {
+            return Err(Kind::Grammar.at(self.at));
         }
-        WordField::Refused(Refusal {
-            kind: Kind::Grammar,
-            place: at,
-        })
+        if most < digits.value {
+            return Err(beyond.at(self.at));
+        }
+        Ok((digits.value, Cursor { at: digits.end }))
     }
 
     // A space, and the natural after it.
-    pub fn next_natural(self, s: &[u8], most: u32, beyond: Kind) -> WordField
+    pub fn next_natural(self, s: &[u8], most: u32, beyond: Kind) -> Field<u32>
         requires { most ≤ largest_bound }
         ensures { as_word result ≡ next_natural (number beyond) most s.now self.at }
     {
-        let a = self.byte(s, SPACE);
-        let Passed::Got(c) = a else {
-            return WordField::Refused(a.refusal());
-        };
-        c.natural(s, most, beyond)
+        self.byte(s, SPACE)?.natural(s, most, beyond)
     }
 
     // A space, a natural, and the byte `b`, which is not 0, behind it.
-    pub fn natural_then(self, s: &[u8], most: u32, beyond: Kind, b: u8) -> WordField
+    pub fn natural_then(self, s: &[u8], most: u32, beyond: Kind, b: u8) -> Field<u32>
         requires { (most ≤ largest_bound) × (0 < b) }
         ensures { as_word result ≡ natural_then (number beyond) most b s.now self.at }
     {
-        let a = self.next_natural(s, most, beyond);
-        let WordField::Got(v, c) = a else {
-            return a;
-        };
-        let e = c.byte(s, b);
-        let Passed::Got(d) = e else {
-            return WordField::Refused(e.refusal());
-        };
-        WordField::Got(v, d)
+        let (v, c) = self.next_natural(s, most, beyond)?;
+        Ok((v, c.byte(s, b)?))
     }
 
     // The natural after the minus at the cursor, as 2 v + 1.
-    fn minus(self, s: &[u8], most: u32) -> WordField
+    fn minus(self, s: &[u8], most: u32) -> Field<u32>
         requires { (most ≤ largest_number) × (self.at < length s.now) }
         ensures { as_word result ≡ negative most s.now self.at }
     {
-        let at = self.at;
-        let from = at + 1;
-        let c = Cursor { at: from };
-        let a = c.natural(s, most, Kind::Bounds);
-        let WordField::Got(v, n) = a else {
-            let r = a.refusal();
-            let kind = r.kind;
-            return WordField::Refused(Refusal { kind, place: at });
-        };
-        if v == 0 {
-            return WordField::Refused(Refusal {
-                kind: Kind::Grammar,
-                place: at,
-            });
+        match self.ahead(1).natural(s, most, Kind::Bounds) {
+            Ok((0, _)) => Err(Kind::Grammar.at(self.at)),
+            Ok((v, c)) => Ok((2 * v + 1, c)),
+            Err(r) => Err(r.kind.at(self.at)),
         }
-        let double = 2 * v;
-        let code = double + 1;
-        WordField::Got(code, n)
     }
 
     // An integer from - low to high, as 2 v, or 2 v + 1 after a minus.
-    fn integer(self, s: &[u8], low: u32, high: u32) -> WordField
+    fn integer(self, s: &[u8], low: u32, high: u32) -> Field<u32>
         requires { (low ≤ largest_number) × (high ≤ largest_number) }
         ensures { as_word result ≡ integer low high s.now self.at }
     {
-        let at = self.at;
-        if peek(s, at) == MINUS_SIGN {
+        if self.look(s) == MINUS_SIGN {
             return self.minus(s, low);
         }
-        let a = self.natural(s, high, Kind::Bounds);
-        let WordField::Got(v, n) = a else {
-            return a;
-        };
-        let code = 2 * v;
-        WordField::Got(code, n)
+        let (v, c) = self.natural(s, high, Kind::Bounds)?;
+        Ok((2 * v, c))
     }
 
     // A space, and the integer after it.
-    pub fn next_integer(self, s: &[u8], low: u32, high: u32) -> WordField
+    pub fn next_integer(self, s: &[u8], low: u32, high: u32) -> Field<u32>
         requires { (low ≤ largest_number) × (high ≤ largest_number) }
         ensures { as_word result ≡ next_integer low high s.now self.at }
     {
-        let a = self.byte(s, SPACE);
-        let Passed::Got(c) = a else {
-            return WordField::Refused(a.refusal());
-        };
-        c.integer(s, low, high)
+        self.byte(s, SPACE)?.integer(s, low, high)
     }
 
     // A literal: an integer other than 0.
-    fn literal(self, s: &[u8]) -> WordField
+    fn literal(self, s: &[u8]) -> Field<u32>
         ensures { as_word result ≡ literal s.now self.at }
     {
-        let a = self.integer(s, LAST_ATOM, LAST_ATOM);
-        let WordField::Got(v, n) = a else {
-            return a;
-        };
+        let (v, c) = self.integer(s, LAST_ATOM, LAST_ATOM)?;
         if v == 0 {
-            let at = self.at;
-            return WordField::Refused(Refusal {
-                kind: Kind::Bounds,
-                place: at,
-            });
+            return Err(Kind::Bounds.at(self.at));
         }
-        WordField::Got(v, n)
+        Ok((v, c))
     }
 
     // A space, and the literal after it.
-    pub(crate) fn next_literal(self, s: &[u8]) -> WordField
+    pub(crate) fn next_literal(self, s: &[u8]) -> Field<u32>
         ensures { as_word result ≡ next literal s.now self.at }
     {
-        let a = self.byte(s, SPACE);
-        let Passed::Got(c) = a else {
-            return WordField::Refused(a.refusal());
-        };
-        c.literal(s)
+        self.byte(s, SPACE)?.literal(s)
     }
 
     // A natural from 1 to `most`; 0 is refused as `zero`.
-    fn from_one(self, s: &[u8], most: u32, zero: Kind) -> WordField
+    fn from_one(self, s: &[u8], most: u32, zero: Kind) -> Field<u32>
         requires { most ≤ largest_bound }
         ensures { as_word result ≡ from_one (number zero) most s.now self.at }
     {
-        let a = self.natural(s, most, Kind::Bounds);
-        let WordField::Got(v, n) = a else {
-            return a;
-        };
+        let (v, c) = self.natural(s, most, Kind::Bounds)?;
         if v == 0 {
-            let at = self.at;
-            return WordField::Refused(Refusal {
-                kind: zero,
-                place: at,
-            });
+            return Err(zero.at(self.at));
         }
-        WordField::Got(v, n)
+        Ok((v, c))
     }
 
     // An atom; atom 0 is refused as `zero`.
-    fn atom(self, s: &[u8], zero: Kind) -> AtomField
+    fn atom(self, s: &[u8], zero: Kind) -> Field<AtomNo>
         ensures { as_atom result ≡ atom (number zero) s.now self.at }
     {
-        let a = self.from_one(s, LAST_ATOM, zero);
-        let WordField::Got(v, n) = a else {
-            return AtomField::Refused(a.refusal());
-        };
-        AtomField::Got(AtomNo(v), n)
+        let (v, c) = self.from_one(s, LAST_ATOM, zero)?;
+        Ok((AtomNo(v), c))
     }
 
     // A space, and the atom after it.
-    pub fn next_atom(self, s: &[u8], zero: Kind) -> AtomField
+    pub fn next_atom(self, s: &[u8], zero: Kind) -> Field<AtomNo>
         ensures { as_atom result ≡ next_atom (number zero) s.now self.at }
     {
-        let a = self.byte(s, SPACE);
-        let Passed::Got(c) = a else {
-            return AtomField::Refused(a.refusal());
-        };
-        c.atom(s, zero)
+        self.byte(s, SPACE)?.atom(s, zero)
     }
 
     // A space, and the term number after it.
-    pub fn next_term(self, s: &[u8]) -> TermField
+    pub fn next_term(self, s: &[u8]) -> Field<TermNo>
         ensures { as_term result ≡ next_term s.now self.at }
     {
-        let a = self.next_natural(s, LAST_TERM, Kind::Bounds);
-        let WordField::Got(u, c) = a else {
-            return TermField::Refused(a.refusal());
-        };
-        TermField::Got(TermNo(u), c)
+        let (v, c) = self.next_natural(s, LAST_TERM, Kind::Bounds)?;
+        Ok((TermNo(v), c))
     }
 
     // A space, and the element number after it.
-    pub fn next_element(self, s: &[u8]) -> ElementField
+    pub fn next_element(self, s: &[u8]) -> Field<ElementNo>
         ensures { as_element result ≡ next_element s.now self.at }
     {
-        let a = self.next_natural(s, LAST_ELEMENT, Kind::Bounds);
-        let WordField::Got(v, c) = a else {
-            return ElementField::Refused(a.refusal());
-        };
-        ElementField::Got(ElementNo(v), c)
+        let (v, c) = self.next_natural(s, LAST_ELEMENT, Kind::Bounds)?;
+        Ok((ElementNo(v), c))
     }
 
     // A space, and the weight after it.
-    pub(crate) fn next_weight(self, s: &[u8]) -> WordField
+    pub(crate) fn next_weight(self, s: &[u8]) -> Field<u32>
         ensures { as_word result ≡ next_weight s.now self.at }
     {
-        let a = self.byte(s, SPACE);
-        let Passed::Got(c) = a else {
-            return WordField::Refused(a.refusal());
-        };
-        c.from_one(s, LARGEST_WEIGHT, Kind::Bounds)
+        self.byte(s, SPACE)?
+            .from_one(s, LARGEST_WEIGHT, Kind::Bounds)
     }
 }

@@ -1,4 +1,6 @@
 // Where the fields of a line stand.
+#![tactic(auto, using(crate::proofs::Fieldwise::places), unfolding(crate::specs::Fields::byte_at))]
+
 ghost use Rattle.std.specs.Prelude.{◌≡◌};
 ghost use Rattle.fields.specs.Fields.{behind_space, field_place};
 
@@ -8,12 +10,10 @@ use crate::SPACE;
 fn behind_space(s: &[u8], at: usize) -> usize
     ensures { result ≡ behind_space s.now at }
 {
-    let mut i = at;
-    while i < s.len() {
+    for i in at..s.len() {
         if s[i] == SPACE {
             return i + 1;
         }
-        i += 1;
     }
     s.len()
 }
@@ -22,11 +22,9 @@ fn behind_space(s: &[u8], at: usize) -> usize
 pub fn field_place(s: &[u8], k: usize, at: usize) -> usize
     ensures { result ≡ field_place s.now k at }
 {
-    let mut left = k;
     let mut place = at;
-    while 0 < left {
+    for _ in 0..k {
         place = behind_space(s, place);
-        left -= 1;
     }
     place
 }

@@ -1,9 +1,9 @@
 // A container: for each case a line `NAME LENGTH`, so many bytes, and a line end.
-ghost use Rattle.std.specs.Prelude.{◌≡◌};
-ghost use Rattle.files.specs.inner.Cases.{case_at};
+ghost use Rattle.std.specs.Prelude.{◌≡◌, IfSome};
+ghost use Rattle.files.specs.inner.Cases.{case_at, Stands};
 
 use faults::{Kind, LONGEST_TEXT};
-use fields::{Cursor, FEED, WordField};
+use fields::{Cursor, FEED};
 
 // The bytes of the longest case.
 const LONGEST_CASE: u32 = LONGEST_TEXT as u32;
@@ -12,27 +12,29 @@ const LONGEST_CASE: u32 = LONGEST_TEXT as u32;
 const CASE_END: u8 = FEED;
 
 // Where a case stands: the end of its name, then the start and the end of its bytes.
-#[derive(Clone, Copy)]
-pub enum Case {
-    At(usize, usize, usize),
-    Nothing,
+#[derive(Clone, Copy, Debug, PartialEq, Eq)]
+pub struct Case {
+    pub name: usize,
+    pub start: usize,
+    pub end: usize,
 }
 
-// The case at a place: nothing where its line is of another form, its length is more than that of the longest, or no line end follows its bytes.
-pub fn case_at(s: &[u8], at: usize) -> Case
-    ensures { result ≡ case_at s.now at }
+// The case at a place: none where its line is of another form, its length is more than that of the longest, or no line end follows its bytes.
+pub fn case_at(s: &[u8], at: usize) -> Option<Case>
+    ensures value { result ≡ case_at s.now at }
+    ensures stands { IfSome result (Stands s.now at) }
 {
-    let from = Cursor::start();
-    let c = from.ahead(at);
-    let name = c.past_field(s);
-    let a = name.natural_then(s, LONGEST_CASE, Kind::Bounds, FEED);
-    let WordField::Got(n, start) = a else {
-        return Case::Nothing;
+    let name = Cursor { at }.past_field(s);
+    let Ok((size, start)) = name.natural_then(s, LONGEST_CASE, Kind::Bounds, FEED) else {
+        return None;
     };
-    let size = n as usize;
-    let end = start.ahead(size);
+    let end = start.ahead(size as usize);
     if end.look(s) != CASE_END {
-        return Case::Nothing;
+        return None;
     }
-    Case::At(name.at, start.at, end.at)
+    Some(Case {
+        name: name.at,
+        start: start.at,
+        end: end.at,
+    })
 }

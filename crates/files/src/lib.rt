@@ -19,9 +19,8 @@ fn read_full<F: Read>(file: &mut F, buf: &mut [u8]) -> usize
     let mut done = 0;
     while done < buf.len() {
         match file.read(&mut buf[done..]) {
-            Ok(0) => return done,
+            Ok(0) | Err(_) => return done,
             Ok(n) => done += n,
-            Err(_) => return done,
         }
     }
     done
@@ -31,11 +30,11 @@ fn read_full<F: Read>(file: &mut F, buf: &mut [u8]) -> usize
 pub fn load<R: Files>(rt: &R, path: &[u8], buf: &mut [u8]) -> usize
     ensures { IsPrefixLen result buf.new }
 {
-    match str::from_utf8(path) {
-        Ok(name) => match fs::open(rt, name) {
-            Ok(mut file) => read_full(&mut file, buf),
-            Err(_) => 0,
-        },
-        Err(_) => 0,
-    }
+    let Ok(name) = str::from_utf8(path) else {
+        return 0;
+    };
+    let Ok(mut file) = fs::open(rt, name) else {
+        return 0;
+    };
+    read_full(&mut file, buf)
 }

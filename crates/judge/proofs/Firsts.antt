@@ -1,4 +1,4 @@
--- The first places of four slices as a list of differences: what holds of each, which are listed, and which of them are in force.
+-- The first places of two slices as a list of differences: what holds of each, which are listed, and which of them are in force.
 use Prim.Native.Nat.{ℕ, zero, suc, ◌<◌}
 use mathlib.Core.Path.{◌≡◌, refl, subst, ap, ◌∙◌}
 use mathlib.Core.Logic.{◌⊎◌, inl, inr, ⊎_elim}
@@ -6,17 +6,32 @@ use mathlib.Core.Bool.{Bool, true, false}
 use mathlib.Core.List.{List, [], ◌∷◌, ◌++◌}
 use native.Mathlib.Omega.{arith}
 use native.Mathlib.Decide.{dec_lt}
-use lib.ListN.{length, length-append}
+use lib.ListN.{length, take, length-append}
+use lib.Seq.{get_or-take, length-take-le}
 use Rattle.basics.specs.Bools.{pick}
 use Rattle.basics.specs.inner.Bitmaps.{is_marked}
 use Rattle.basics.specs.Lists.{All, Some}
 use Rattle.basics.proofs.Lists.{some_left, some_right}
+use Rattle.aspif.specs.inner.Words.{word}
 use Rattle.diffs.specs.Diff.{Diff}
+use Rattle.diffs.specs.inner.Answer.{zero_difference}
+use Rattle.diffs.specs.declared.Difference.{Difference}
 use Rattle.diffs.proofs.Choosing.{by_dec}
 use Rattle.diffs.proofs.Names.{all_left, all_right}
 use Rattle.terms.specs.Terms.{Stated, Lists}
-use Rattle.terms.specs.inner.Tables.{tabulated}
-use Rattle.judge.specs.inner.Stages.{in_force}
+use Rattle.terms.specs.inner.Tables.{tabulated, held_at}
+use Rattle.terms.specs.inner.Values.{Within}
+use Rattle.terms.proofs.Turns.{tabulated-same}
+use Rattle.judge.specs.inner.Stages.{stated, in_force}
+
+-- ---- the first places
+
+-- the front parts of two slices have what these have in their first places
+pub front-stated : (n : ℕ) (atoms : List ℕ) (ds : List Difference) → Within n atoms ds → stated (take n atoms) (take n ds) ≡ tabulated n (held_at atoms ds)
+unfolding word
+front-stated n atoms ds w =
+    rw (length-take-le n atoms w.in_atoms)
+    (tabulated-same n (held_at (take n atoms) (take n ds)) (held_at atoms ds) (λ i l. rw (get_or-take n atoms i 0 l, get_or-take n ds i zero_difference l)))
 
 -- ---- each place
 

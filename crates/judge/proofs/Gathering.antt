@@ -5,140 +5,110 @@ use mathlib.Core.Bool.{true, false}
 use mathlib.Core.List.{List, [], ◌∷◌, ◌++◌, append-nil}
 use native.Mathlib.Omega.{arith}
 use native.Mathlib.Numerals.{add-one}
-use lib.IntN.{ℤ, pos}
-use lib.ListN.{length, get_or, set, length-set, take}
-use lib.Seq.{get_or-take, length-take-le}
+use lib.ListN.{length, get_or, set, take, length-set}
+use lib.Seq.{length-take-le}
 use Rattle.faults.specs.Limits.{last_atom}
 use Rattle.basics.specs.inner.Bitmaps.{is_marked}
 use Rattle.aspif.specs.inner.Words.{word}
+use Rattle.diffs.specs.inner.Answer.{said, zero_difference}
+use Rattle.diffs.specs.declared.Difference.{Difference}
 use Rattle.terms.specs.inner.Tables.{tabulated, held_at}
 use Rattle.terms.specs.inner.Values.{Within}
 use Rattle.terms.proofs.Turns.{tabulated-same, others, this}
 use Rattle.judge.specs.inner.Stages.{stated, in_force, Gathered, Filled, SmallStated, Labelled, Candidate}
-use Rattle.judge.proofs.Firsts.{length-tabulated, in_force-append, tabulated-all, all_force}
+use Rattle.judge.proofs.Firsts.{length-tabulated, in_force-append, tabulated-all, all_force, front-stated}
 use Rattle.judge.proofs.Few.{few_force}
 
 -- ---- one place more
 
-module _ (labels xs ys : List ℕ) (ks : List ℤ) (n a x y : ℕ) (k : ℤ)
-    (ha : n < length labels) (hx : n < length xs) (hy : n < length ys) (hk : n < length ks) where
+module _ (labels : List ℕ) (gathered : List Difference) (n a : ℕ) (d : Difference) (ha : n < length labels) (hd : n < length gathered) where
   -- so the list has one more at its end
-  one_more : stated (suc n) (set labels n a) (set xs n x) (set ys n y) (set ks n k) ≡ stated n labels xs ys ks ++ (record { atom = a; says = record { x = x; y = y; k = k } } ∷ [])
+  one_more : tabulated (suc n) (held_at (set labels n a) (set gathered n d)) ≡ tabulated n (held_at labels gathered) ++ (record { atom = a; says = said d } ∷ [])
   unfolding tabulated
-  one_more = rw (tabulated-same n (held_at (set labels n a) (set xs n x) (set ys n y) (set ks n k)) (held_at labels xs ys ks) (λ i h. others labels xs ys ks n a x y k ha hx hy hk i (λ e. omega arith)), this labels xs ys ks n a x y k ha hx hy hk)
+  one_more =
+      rw (tabulated-same n (held_at (set labels n a) (set gathered n d)) (held_at labels gathered) (λ i h. others labels gathered n a d ha hd i (λ e. omega arith)), this labels gathered n a d ha hd)
 
 -- ---- the loop
 
--- four slices are as long as four others
-pub record Alike (atoms xs ys : List ℕ) (ks : List ℤ) (labels gxs gys : List ℕ) (gks : List ℤ) : Type 0 where
+-- before difference i
+pub record Going (atoms : List ℕ) (ds : List Difference) (x labels : List ℕ) (gathered : List Difference) (n i : ℕ) : Type 0 where
   pub for_atoms : length labels ≡ length atoms
-  pub for_xs : length gxs ≡ length xs
-  pub for_ys : length gys ≡ length ys
-  pub for_ks : length gks ≡ length ks
-
--- before difference i, of m
-pub record Going (atoms xs ys : List ℕ) (ks : List ℤ) (m : ℕ) (x labels gxs gys : List ℕ) (gks : List ℤ) (n i : ℕ) : Type 0 where
-  pub alike : Alike atoms xs ys ks labels gxs gys gks
-  pub roomy : Within m labels gxs gys gks
-  pub within : i ≤ m
-  pub so_far : Gathered i (in_force x (stated i atoms xs ys ks)) n labels gxs gys gks
-  pub ahead : (j : ℕ) → i ≤ j → held_at labels gxs gys gks j ≡ held_at atoms xs ys ks j
+  pub for_differences : length gathered ≡ length atoms
+  pub few : n ≤ i
+  pub so_far : tabulated n (held_at labels gathered) ≡ in_force x (tabulated i (held_at atoms ds))
+  pub ahead : (j : ℕ) → i ≤ j → held_at labels gathered j ≡ held_at atoms ds j
 
 -- nothing is gathered
-pub going_start : (atoms xs ys : List ℕ) (ks : List ℤ) (m : ℕ) (x : List ℕ) → Filled m atoms xs ys ks → Going atoms xs ys ks m x atoms xs ys ks 0 0
+pub going_start : (atoms : List ℕ) (ds : List Difference) (x : List ℕ) → Filled atoms ds → Going atoms ds x atoms ds 0 0
 unfolding in_force tabulated
-going_start atoms xs ys ks m x f = record { alike = record { for_atoms = refl; for_xs = refl; for_ys = refl; for_ks = refl }; roomy = f.roomy; within = omega arith; so_far = record { few = omega arith; is = refl }; ahead = λ j h. refl }
+going_start atoms ds x f = record { for_atoms = refl; for_differences = f.alike; few = omega arith; so_far = refl; ahead = λ j h. refl }
 
-module _ (atoms xs ys : List ℕ) (ks : List ℤ) (m : ℕ) (x labels gxs gys : List ℕ) (gks : List ℤ) where
-  module _ (n i : ℕ) (g : Going atoms xs ys ks m x labels gxs gys gks n i) (l : i < m) where
+module _ (atoms : List ℕ) (ds : List Difference) (x labels : List ℕ) (gathered : List Difference) where
+  module _ (n i : ℕ) (g : Going atoms ds x labels gathered n i) (l : i < length atoms) where
     -- difference i is where it was
-    here : held_at labels gxs gys gks i ≡ held_at atoms xs ys ks i
+    here : held_at labels gathered i ≡ held_at atoms ds i
     here = g.ahead i (omega arith)
 
     -- one more is passed
-    passed : in_force x (stated (i + 1) atoms xs ys ks) ≡ in_force x (stated i atoms xs ys ks) ++ in_force x (held_at labels gxs gys gks i ∷ [])
+    passed : in_force x (tabulated (i + 1) (held_at atoms ds)) ≡ in_force x (tabulated i (held_at atoms ds)) ++ in_force x (held_at labels gathered i ∷ [])
     unfolding tabulated
-    passed = rw (add-one i, here, in_force-append x (stated i atoms xs ys ks) (held_at atoms xs ys ks i ∷ []))
+    passed = rw (add-one i, here, in_force-append x (tabulated i (held_at atoms ds)) (held_at atoms ds i ∷ []))
 
     -- difference i is not in force
-    pub going_pass : is_marked x (get_or labels i 0) ≡ false → Going atoms xs ys ks m x labels gxs gys gks n (i + 1)
+    pub going_pass : is_marked x (get_or labels i 0) ≡ false → Going atoms ds x labels gathered n (i + 1)
     unfolding in_force word
     going_pass h =
         record {
-          alike = g.alike;
-          roomy = g.roomy;
-          within = omega arith;
-          so_far = record { few = omega (arith, g.so_far.few); is = rw (passed, h, append-nil) g.so_far.is };
+          for_atoms = g.for_atoms;
+          for_differences = g.for_differences;
+          few = omega (arith, g.few);
+          so_far = rw (passed, h, append-nil) g.so_far;
           ahead = λ j k. g.ahead j (omega arith);
         }
 
     -- difference i is in force
-    pub going_take : is_marked x (get_or labels i 0) ≡ true → (k : ℤ) → k ≡ get_or gks i (pos 0)
-        → Going atoms xs ys ks m x (set labels n (get_or labels i 0)) (set gxs n (get_or gxs i 0)) (set gys n (get_or gys i 0)) (set gks n k) (n + 1) (i + 1)
+    pub going_take : is_marked x (get_or labels i 0) ≡ true → Going atoms ds x (set labels n (get_or labels i 0)) (set gathered n (get_or gathered i zero_difference)) (n + 1) (i + 1)
     unfolding in_force tabulated word
-    going_take h k e =
-        let p = g.roomy in
-        let few : n ≤ i = g.so_far.few in
+    going_take h =
+        let few : n ≤ i = g.few in
+        let ha : n < length labels = omega (arith, g.for_atoms) in
+        let hd : n < length gathered = omega (arith, g.for_differences) in
         record {
-          alike = record {
-            for_atoms = simp length-set g.alike.for_atoms;
-            for_xs = simp length-set g.alike.for_xs;
-            for_ys = simp length-set g.alike.for_ys;
-            for_ks = simp length-set g.alike.for_ks;
-          };
-          roomy = record {
-            in_atoms = simp length-set p.in_atoms;
-            in_xs = simp length-set p.in_xs;
-            in_ys = simp length-set p.in_ys;
-            in_ks = simp length-set p.in_ks;
-          };
-          within = omega arith;
-          so_far = record {
-            few = omega arith;
-            is =
-                rw (passed, add-one n, h, ← g.so_far.is, ← e)
-                (one_more labels gxs gys gks n _ _ _ _ (omega (arith, p.in_atoms)) (omega (arith, p.in_xs)) (omega (arith, p.in_ys)) (omega (arith, p.in_ks)));
-          };
-          ahead = λ j w.
-              others labels gxs gys gks n _ _ _ _ (omega (arith, p.in_atoms)) (omega (arith, p.in_xs)) (omega (arith, p.in_ys)) (omega (arith, p.in_ks)) j (λ z. omega arith)
-              ∙ g.ahead j (omega arith);
+          for_atoms = simp length-set g.for_atoms;
+          for_differences = simp length-set g.for_differences;
+          few = omega arith;
+          so_far = rw (passed, add-one n, h, ← g.so_far) (one_more labels gathered n _ _ ha hd);
+          ahead = λ j w. others labels gathered n _ _ ha hd j (λ z. omega arith) ∙ g.ahead j (omega arith);
         }
 
-  -- all m are passed
-  pub going_end : (n i : ℕ) → Going atoms xs ys ks m x labels gxs gys gks n i → m ≤ i → Gathered m (in_force x (stated m atoms xs ys ks)) n labels gxs gys gks
-  going_end n i g l = let e : i ≡ m = omega (arith, g.within) in rw e at g.so_far
+  -- all are passed
+  pub going_end : (n i : ℕ) → Going atoms ds x labels gathered n i → i ≡ length atoms → Gathered (in_force x (stated atoms ds)) n labels gathered
+  going_end n i g e =
+      let w : Within n labels gathered = record { in_atoms = omega (arith, g.few, g.for_atoms); in_differences = omega (arith, g.few, g.for_differences) } in
+      record { within = w; is = front-stated n labels gathered w ∙ rw e at g.so_far }
 
 -- ---- what was gathered
 
-module _ (m : ℕ) (atoms xs ys : List ℕ) (ks : List ℤ) (f : Filled m atoms xs ys ks) (x : List ℕ) (cand : Candidate x) (n : ℕ) (labels gxs gys : List ℕ) (gks : List ℤ)
-    (g : Gathered m (in_force x (stated m atoms xs ys ks)) n labels gxs gys gks) where
+-- the front parts of two slices are as long
+pub fronts_alike : {n : ℕ} {labels : List ℕ} {gathered : List Difference} → Within n labels gathered → length (take n labels) ≡ length (take n gathered)
+fronts_alike {n} {labels} {gathered} w = length-take-le n labels w.in_atoms ∙ sym (length-take-le n gathered w.in_differences)
+
+module _ (atoms : List ℕ) (ds : List Difference) (f : Filled atoms ds) (x : List ℕ) (cand : Candidate x) (labels : List ℕ) (gathered : List Difference)
+    (alike : length labels ≡ length gathered) (g : stated labels gathered ≡ in_force x (stated atoms ds)) where
   -- each that was gathered is within the bounds
-  within : (i : ℕ) → i < n → SmallStated (held_at labels gxs gys gks i)
-  within = tabulated-all SmallStated n (held_at labels gxs gys gks) (rw g.is (all_force x SmallStated (stated m atoms xs ys ks) f.small))
+  within : (i : ℕ) → i < length labels → SmallStated (held_at labels gathered i)
+  within = tabulated-all SmallStated (length labels) (held_at labels gathered) (rw g (all_force x SmallStated (stated atoms ds) f.small))
 
   -- they are at most as many as there are atoms
-  gathered_few : n ≤ last_atom
+  gathered_few : length labels ≤ last_atom
   gathered_few =
-      omega (arith, length-tabulated n (held_at labels gxs gys gks), ap length g.is, few_force x cand.none (stated m atoms xs ys ks) f.differ f.small)
+      omega (arith, length-tabulated (length labels) (held_at labels gathered), ap length g, few_force x cand.none (stated atoms ds) f.differ f.small)
 
-  -- the parts of the slices that were filled are what the times are found of
-  pub gathered_labelled : Within n labels gxs gys gks → Labelled (take n labels) (take n gxs) (take n gys) (take n gks)
-  unfolding word
-  gathered_labelled p =
-      let few : n ≤ last_atom = gathered_few in
-      let ll : length (take n labels) ≡ n = length-take-le n labels (omega (arith, p.in_atoms)) in
-      let lx : length (take n gxs) ≡ n = length-take-le n gxs (omega (arith, p.in_xs)) in
-      let ly : length (take n gys) ≡ n = length-take-le n gys (omega (arith, p.in_ys)) in
-      let lk : length (take n gks) ≡ n = length-take-le n gks (omega (arith, p.in_ks)) in
+  -- they are what the times are found of
+  pub gathered_labelled : Labelled labels gathered
+  gathered_labelled =
       record {
-        slices = record {
-          few = omega arith;
-          xs_length = lx ∙ sym lk;
-          ys_length = ly ∙ sym lk;
-          named = λ j l.
-              let i : j < n = omega arith in
-              (rw (get_or-take n gxs j 0 i) (within j i).0.x-small, rw (get_or-take n gys j 0 i) (within j i).0.y-small);
-        };
-        labels_length = ll ∙ sym lk;
-        bounded = λ j l. let i : j < n = omega arith in rw (get_or-take n gks j (pos 0) i) (within j i).0.k-small;
+        few = omega (arith, gathered_few);
+        labels_length = alike;
+        small = λ j l. (within j (omega arith)).0;
       }

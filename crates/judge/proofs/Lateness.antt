@@ -5,20 +5,19 @@ use mathlib.Core.List.{List}
 use native.Mathlib.Omega.{arith}
 use borrow.Author.Tests.{lt-ltb, le-ltb}
 use lib.ListN.{length, get_or}
-use lib.IntN.{ℤ, pos, negsuc, neg_ℤ}
-use lib.Signed.{◌≤ℤ◌}
 use Rattle.faults.specs.Limits.{largest_number, table_room}
 use Rattle.faults.specs.inner.Places.{term_places}
 use Rattle.faults.specs.Answer.{got, refused}
 use Rattle.basics.specs.inner.Bitmaps.{marked_from}
-use Rattle.aspif.specs.inner.Kept.{FromTo}
 use Rattle.diffs.specs.Diff.{Diff, Earliest}
 use Rattle.diffs.specs.inner.Answer.{cell, diff_at, Among}
-use Rattle.diffs.proofs.Integers.{up_le, neg_up}
+use Rattle.diffs.specs.declared.Difference.{Difference}
 use Rattle.diffs.proofs.Latest.{latest-time}
 use Rattle.timetable.specs.inner.Given.{time_at}
 use Rattle.timetable.proofs.Marks.{marked-none, marked_pass, marked-take}
+use Rattle.terms.specs.inner.Tables.{SmallDiff}
 use Rattle.judge.specs.Judged.{largest_time, in_time}
+use Rattle.judge.proofs.Small.{bound-low}
 use Rattle.judge.specs.inner.Stages.{Labelled, Candidate, Writable}
 
 module _ (names times : List ℕ) (i : ℕ) where
@@ -41,32 +40,27 @@ module _ (names times : List ℕ) (i : ℕ) where
   unfolding in_time
   late_end h = rw (marked-none names i h)
 
+-- the turns of the loop
+pub ruleset late_steps = (late_pass, late-time, late-found, late_end)
+
 -- ---- no time is late
 
--- the bounds go down to -1,000,000
-least-bound : (k : ℤ) → FromTo largest_number largest_number k → neg_ℤ (pos largest_number) ≤ℤ k
-least-bound (pos n) h = up_le (omega (arith, neg_up (pos largest_number)))
-least-bound (negsuc n) h = up_le (omega (arith, neg_up (pos largest_number)))
-
-module _ (labels xs ys : List ℕ) (ks : List ℤ) (w : Labelled labels xs ys ks) (u : ℕ → ℕ) (e : Earliest (Among (length ks) (diff_at xs ys ks)) u) where
-  -- the names are below 1,024
-  named : (d : Diff) → Among (length ks) (diff_at xs ys ks) d → (d.x < term_places) × (d.y < term_places)
-  named d q = subst (λ (s : Diff). (s.x < term_places) × (s.y < term_places)) q.is (w.slices.named q.number q.within)
-
-  -- no bound is below -1,000,000
-  bounded : (d : Diff) → Among (length ks) (diff_at xs ys ks) d → neg_ℤ (pos largest_number) ≤ℤ d.k
-  bounded d q = least-bound d.k (subst (λ (s : Diff). FromTo largest_number largest_number s.k) q.is (w.bounded q.number q.within))
+module _ (labels : List ℕ) (ds : List Difference) (w : Labelled labels ds) (u : ℕ → ℕ) (e : Earliest (Among (length ds) (diff_at ds)) u) where
+  -- the differences are within their bounds
+  small : (d : Diff) → Among (length ds) (diff_at ds) d → SmallDiff d
+  small d q = subst SmallDiff q.is (w.small q.number q.within)
 
   -- no earliest time is above 1,023,000,000
   pub never_late : (v : ℕ) → u v ≤ 1023000000
-  never_late v = latest-time (Among (length ks) (diff_at xs ys ks)) term_places largest_number named bounded u e v
+  never_late v =
+      latest-time (Among (length ds) (diff_at ds)) term_places largest_number (λ d q. let s = small d q in (s.x-small, s.y-small)) (λ d q. bound-low d (small d q)) u e v
 
 -- times that are the earliest can be written
-pub earliest_writable : (labels xs ys : List ℕ) (ks : List ℤ) → Labelled labels xs ys ks → (names times x room : List ℕ)
-    → Earliest (Among (length ks) (diff_at xs ys ks)) (cell times)
+pub earliest_writable : (labels : List ℕ) (ds : List Difference) → Labelled labels ds → (names times x room : List ℕ)
+    → Earliest (Among (length ds) (diff_at ds)) (cell times)
     → length names ≡ term_places → length times ≡ term_places → Candidate x → table_room ≤ length room → Writable names times x room
-earliest_writable labels xs ys ks w names times x room e n t c r =
+earliest_writable labels ds w names times x room e n t c r =
     record {
       sized = record { names-long = omega arith; times_long = omega arith; atoms-long = c.places; room-long = r };
-      timely = record { each = λ v m. never_late labels xs ys ks w (cell times) e v };
+      timely = record { each = λ v m. never_late labels ds w (cell times) e v };
     }

@@ -20,7 +20,6 @@ pub mod Gathering
 pub mod Lateness
 pub mod Blank
 pub mod Writing
-pub mod Said
 pub mod Bitmaps
 pub mod Forced
 pub mod Settling

@@ -1,5 +1,5 @@
 -- The part of a line from a place on, by its places. Assumes nothing.
-use Prim.Native.Nat.{ℕ, ◌+◌, ◌-◌, ◌≤◌}
+use Prim.Native.Nat.{ℕ, ◌+◌, ◌-◌, min}
 use mathlib.Core.Path.{◌≡◌, refl, ap, ◌∙◌}
 use mathlib.Core.Bool.{Bool, true, false}
 use mathlib.Core.List.{List, []}
@@ -7,35 +7,33 @@ use native.Mathlib.Omega.{arith}
 use borrow.Author.Tests.{eqb-true}
 use lib.Dec.{eqb}
 use lib.ListN.{length, take, drop}
+use Rattle.std.proofs.lemmas.List.{drop_min, take_all, length-drop}
 use lib.Seq.{drop-length, take-nil}
 use denote.Ref.{Bor}
 use Rattle.fields.specs.declared.LineEnd.{LineEnd}
 use Rattle.fields.specs.Fields.{until, breaks, ends_of, part_from}
-use Rattle.fields.proofs.Runs.{run_out, until-take, until-within}
+use Rattle.fields.proofs.Runs.{until-take}
 use Rattle.judge.specs.Shown.{in_text, shown, Part, IsShown}
 
-module _ (s : List ℕ) (i : ℕ) where
-  -- beyond the end there is nothing
-  pub part_out : length s ≤ i → part_from s i ≡ []
-  unfolding part_from
-  part_out h = run_out (breaks (ends_of s)) s i h
+module _ (s : List ℕ) (i : ℕ) {m e : ℕ} {k : LineEnd} (f : m ≡ min i (length s)) (g : k ≡ ends_of s)
+    (h : e ≡ 0 + length (until (breaks k) (drop 0 (take (length s - m) (drop m s))))) where
+  -- the rest is what stands from the place on
+  rest_is : take (length s - m) (drop m s) ≡ drop i s
+  rest_is = take_all (length s - m) (drop m s) (omega (arith, length-drop m s)) ∙ rw f (drop_min i s)
 
-  -- a part ends where lines of the text's kind do
-  pub part_end : {k : LineEnd} {e : ℕ} → k ≡ ends_of s → e ≡ i + length (until (breaks k) (drop i s)) → e ≡ i + length (part_from s i)
-  unfolding part_from
-  part_end h p = rw h at p
+  -- it is cut where the part ends
+  size : e ≡ length (until (breaks (ends_of s)) (drop i s))
+  size = omega (arith, rw (g, rest_is) at h)
 
-  -- a part ends within the list
-  pub part-within : i ≤ length s → i + length (part_from s i) ≤ length s
+  -- so it has the bytes of the part
+  pub part_bytes : take e (take (length s - m) (drop m s)) ≡ part_from s i
   unfolding part_from
-  part-within h = until-within (breaks (ends_of s)) s i h
+  part_bytes = rw (rest_is, size) (until-take (breaks (ends_of s)) (drop i s))
 
-  -- a part is what stands between its places
-  pub part_between : (e : ℕ) → e ≡ i + length (part_from s i) → take (e - i) (drop i s) ≡ part_from s i
+  -- and the part ends within it
+  pub part_fits : e ≡ length (take e (take (length s - m) (drop m s)))
   unfolding part_from
-  part_between e p =
-      let d : e - i ≡ length (part_from s i) = omega arith in
-      rw d (until-take (breaks (ends_of s)) (drop i s))
+  part_fits = rw part_bytes size
 
 -- what stands behind the end is nothing
 pub behind_end : (s : List ℕ) → take (length s - length s) (drop (length s) s) ≡ []

@@ -4,61 +4,58 @@ use mathlib.Core.Path.{◌≡◌, refl, ap, ◌∙◌}
 use mathlib.Core.Bool.{◌||◌}
 use mathlib.Core.List.{List, [], ◌∷◌, map}
 use native.Mathlib.Omega.{arith}
-use lib.IntN.{ℤ}
-use lib.ListN.{take, length-map}
+use lib.ListN.{length, length-map}
+use lib.Seq.{take-length}
 use Rattle.faults.specs.inner.Places.{term_places}
 use Rattle.basics.specs.Lists.{among, All}
 use Rattle.basics.specs.inner.Bitmaps.{marked_from}
 use Rattle.aspif.specs.Statements.{Line}
 use Rattle.diffs.specs.Diff.{Diff, Earliest}
 use Rattle.diffs.specs.inner.Answer.{cell, diff_at, Among, Shown, Decided}
-use Rattle.diffs.specs.declared.Outcome.{Outcome}
+use Rattle.diffs.specs.declared.Difference.{Difference}
+use Rattle.faults.specs.declared.Refusal.{Refusal}
+use Rattle.std.specs.Prelude.{Option, Some, None, Result}
 use Rattle.timetable.specs.inner.Given.{time_at}
 use Rattle.judge.specs.Plan.{Rooms, Ready, Held, InForce}
-use Rattle.judge.specs.Judged.{Result, accepting, showing, table, Each, NegativeCycle, Timed}
-use Rattle.judge.specs.Values.{rooms, as_result}
-use Rattle.terms.specs.inner.Marks.{MarksThose}
+use Rattle.judge.specs.Judged.{accepting, showing, table, Each, NegativeCycle, Timed}
+use Rattle.judge.specs.Values.{rooms}
+use Rattle.terms.specs.inner.Marks.{MarksThose, xs_of, ys_of}
 use Rattle.terms.proofs.Naming.{names-are}
-use Rattle.judge.proofs.Said.{stating_filled}
-use Rattle.judge.specs.inner.Stages.{stated, Stating, Candidate, ready_at, in_force, Filled, Gathered, Settled, cycle_shown, table_written}
-use Rattle.judge.specs.declared.Verdict.{Verdict}
-use Rattle.judge.specs.declared.Verdict.TheVariants.{Refused}
+use Rattle.judge.specs.inner.Stages.{stated, Stating, Candidate, ready_at, in_force, Settled, cycle_shown, table_written, as_judged}
 use Rattle.judge.proofs.Bitmaps.{marked-atoms}
-use Rattle.judge.proofs.Forced.{cut_held, among_force, force_among}
-use Rattle.faults.specs.declared.Kind.TheVariants as kind
-use Rattle.diffs.specs.declared.Outcome.TheVariants as outcome
+use Rattle.judge.proofs.Forced.{label_held, among_force, force_among}
 use Rattle.judge.specs.Judged as judged
 
 -- ---- what was decided
 
-module _ (m : ℕ) (c : ℕ → Diff) (labels t cycle cycle' : List ℕ) where
+module _ (ds : List Difference) (labels t cycle cycle' : List ℕ) where
   -- the times are the earliest, and the cycle room is as it was
   pub record Quiet : Type 0 where
-    pub earliest : Earliest (Among m c) (cell t)
+    pub earliest : Earliest (Among (length ds) (diff_at ds)) (cell t)
     pub kept : cycle' ≡ cycle
 
   -- times were found
-  pub times_of : (o : Outcome) → Decided o m c labels labels t cycle cycle' → o ≡ outcome.Times → Quiet
+  pub times_of : (o : Option ℕ) → Decided o (length ds) (diff_at ds) labels labels t cycle cycle' → o ≡ None → Quiet
   times_of o (Decided.timed e q k) f = record { earliest = q; kept = k }
   times_of o (Decided.cyclic n e s) f = let z : ◌≡◌ {A = ℕ} 0 1 = cc (e, f) in absurd (omega arith)
 
   -- a cycle was found
-  pub cycle_of : (o : Outcome) (k : ℕ) → Decided o m c labels labels t cycle cycle' → o ≡ outcome.Cycle k → Shown m c labels labels cycle cycle' k
+  pub cycle_of : (o : Option ℕ) (k : ℕ) → Decided o (length ds) (diff_at ds) labels labels t cycle cycle' → o ≡ Some k → Shown (length ds) (diff_at ds) labels labels cycle cycle' k
   cycle_of o k (Decided.timed e q g) f = let z : ◌≡◌ {A = ℕ} 0 1 = cc (e, f) in absurd (omega arith)
   cycle_of o k (Decided.cyclic n e s) f = let g : n ≡ k = cc (e, f) in rw g at s
 
-module _ (m : ℕ) (c : ℕ → Diff) (labels names x room cycle t cycle' : List ℕ) (o : Outcome) (d : Decided o m c labels labels t cycle cycle') where
+module _ (ds : List Difference) (labels names x room cycle t cycle' : List ℕ) (o : Option ℕ) (d : Decided o (length ds) (diff_at ds) labels labels t cycle cycle') where
   -- the earliest times, and what was written of them
-  pub settled-times : o ≡ outcome.Times → (v : Verdict) (room' : List ℕ)
-      → ((cs : List ℕ) → as_result v room' cs ≡ accepting (rooms room cs) (table (marked_from 0 names) (time_at t) (marked_from 1 x)))
-      → Settled m c labels names x (rooms room cycle) (as_result v room' cycle')
+  pub settled-times : o ≡ None → (v : Result ℕ Refusal) (room' : List ℕ)
+      → ((cs : List ℕ) → as_judged v room' cs ≡ accepting (rooms room cs) (table (marked_from 0 names) (time_at t) (marked_from 1 x)))
+      → Settled ds labels names x (rooms room cycle) (as_judged v room' cycle')
   settled-times e v room' w =
-      let q = times_of m c labels t cycle cycle' o d e in
-      table_written (cell t) q.earliest (ap (λ (cs : List ℕ). as_result v room' cs) q.kept ∙ w cycle)
+      let q = times_of ds labels t cycle cycle' o d e in
+      table_written (cell t) q.earliest (ap (λ (cs : List ℕ). as_judged v room' cs) q.kept ∙ w cycle)
 
   -- the cycle of k differences
-  pub settled-cycle : (k : ℕ) → o ≡ outcome.Cycle k → Settled m c labels names x (rooms room cycle) (as_result (Refused (record { kind = kind.Cycle; place = k })) room cycle')
-  settled-cycle k e = cycle_shown k cycle' (cycle_of m c labels t cycle cycle' o k d e) refl
+  pub settled-cycle : (k : ℕ) → o ≡ Some k → Settled ds labels names x (rooms room cycle) (record { verdict = judged.refusal 10 k; rooms = rooms room cycle' })
+  settled-cycle k e = cycle_shown k cycle' (cycle_of ds labels t cycle cycle' o k d e) refl
 
 -- ---- what it says of the plan
 
@@ -88,23 +85,20 @@ shown-room : (b : Rooms) (n : ℕ) (c : ℕ → Diff) (labels cycle : List ℕ) 
     → record { verdict = judged.refusal 10 k; rooms = record { room = b.room; cycle = cycle } } ≡ showing b (map (cell labels) s.numbers)
 shown-room b n c labels cycle k s = rw (length-map s.numbers (cell labels), s.shown, s.count)
 
-module _ (ls : List Line) (m : ℕ) (atoms xs ys : List ℕ) (ks : List ℤ) (h : Stating ls m atoms xs ys ks)
-    (x : List ℕ) (cand : Candidate x) (n : ℕ) (labels gxs gys : List ℕ) (gks : List ℤ)
-    (g : Gathered m (in_force x (stated m atoms xs ys ks)) n labels gxs gys gks)
-    (names : List ℕ) (e : MarksThose term_places names (λ i. among i (take m xs) || among i (take m ys))) (b : Rooms) (r : Result) where
-  filled : Filled m atoms xs ys ks
-  filled = stating_filled ls m atoms xs ys ks h
-
+module _ (ls : List Line) (atoms : List ℕ) (ds : List Difference) (h : Stating ls atoms ds)
+    (x : List ℕ) (cand : Candidate x) (labels : List ℕ) (gathered : List Difference) (alike : length labels ≡ length gathered)
+    (g : stated labels gathered ≡ in_force x (stated atoms ds))
+    (names : List ℕ) (e : MarksThose term_places names (λ i. among i (xs_of ds) || among i (ys_of ds))) (b : Rooms) (r : judged.Result) where
   -- 10, 11 or the timetable of the plan
-  pub settled-timed : (k : ℕ) → k ≡ n → Settled k (diff_at (take n gxs) (take n gys) (take n gks)) (take n labels) names x b r → Timed (ready_at ls x) b r
+  pub settled-timed : Settled gathered labels names x b r → Timed (ready_at ls x) b r
   unfolding marked_from
-  settled-timed k z (cycle_shown j cycle s q) =
-      judged.impossible (map (cell (take n labels)) s.numbers)
-      (shown-cycle (ready_at ls x) k _ _ _ _ _ (λ i l. cut_held ls m atoms xs ys ks h x n labels gxs gys gks g i (omega arith)) s)
-      (q ∙ shown-room b k _ _ _ _ s)
-  settled-timed k z (table_written u t q) =
+  settled-timed (cycle_shown j cycle s q) =
+      judged.impossible (map (cell labels) s.numbers)
+      (shown-cycle (ready_at ls x) (length gathered) _ _ _ _ _ (label_held ls atoms ds h x labels gathered alike g) s)
+      (q ∙ shown-room b (length gathered) _ _ _ _ s)
+  settled-timed (table_written u t q) =
       judged.possible u
-      (earliest-same (Among k _) (InForce (ready_at ls x)) u
-      (λ d w. among_force ls m atoms xs ys ks h x n labels gxs gys gks g d (rw z at w))
-      (λ d w. rw z (force_among ls m atoms xs ys ks h x n labels gxs gys gks g d w)) t)
-      (marked_from 0 names) (names-are ls atoms xs ys ks m h.stated names h.small h.roomy.in_xs h.roomy.in_ys e) (rw (marked-atoms x cand.none) at q)
+      (earliest-same (Among (length gathered) _) (InForce (ready_at ls x)) u
+      (among_force ls atoms ds h x labels gathered alike g)
+      (force_among ls atoms ds h x labels gathered alike g) t)
+      (marked_from 0 names) (names-are ls atoms ds (length atoms) h.stated names h.small (omega (arith, h.alike)) (rw (← h.alike, take-length) e)) (rw (marked-atoms x cand.none) at q)

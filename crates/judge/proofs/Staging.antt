@@ -6,9 +6,8 @@ use mathlib.Core.List.{List, [], ◌∷◌}
 use native.Mathlib.Omega.{arith}
 use borrow.Author.Tests.{ne_eqb, le-ltb, lt-ltb, ltb-false}
 use lib.Dec.{ltb}
-use lib.IntN.{ℤ}
 use lib.ListN.{length, take}
-use lib.Seq.{length-take-le}
+use lib.Seq.{length-take-le, take-length}
 use Rattle.faults.specs.Limits.{cycle_room, longest_text, table_room}
 use Rattle.faults.specs.inner.Places.{atom_places}
 use Rattle.basics.specs.Bools.{pick}
@@ -25,19 +24,25 @@ use Rattle.aspif.specs.inner.Bitmap.{atoms_of, EndsAt}
 use Rattle.aspif.proofs.Kept.{in_range}
 use Rattle.aspif.proofs.Walking.{ahead_small}
 use Rattle.aspif.proofs.Candidates.{AscendingFrom, candidate-ascending}
+use Rattle.diffs.specs.declared.Difference.{Difference}
 use Rattle.terms.specs.Says.{headed}
 use Rattle.terms.specs.Terms.{Stated, external}
 use Rattle.terms.specs.Reasons.{differences}
+use Rattle.terms.specs.inner.Tables.{tabulated, held_at}
 use Rattle.terms.specs.inner.Values.{Within}
 use Rattle.terms.specs.inner.Marks.{MarksThose}
 use Rattle.terms.proofs.Six.{differences-got}
 use Rattle.terms.proofs.Naming.{externals-are}
+use Rattle.terms.proofs.Stating.{atoms-differ}
+use Rattle.terms.proofs.Bounds.{listed_small}
 use Rattle.stable.specs.Meaning.{Atoms, Founding, unfounded_at, FoundedBy, Broken, unbroken, broken_at, first_broken}
 use Rattle.stable.specs.Meaning as meaning
 use Rattle.judge.specs.Plan.{Asked, Rooms, ready, holds, lent, legible, pair, readable}
 use Rattle.judge.specs.Judged.{refusing, unreadable, judgeable, breaks, sound, unsupported, supported, Judged}
-use Rattle.judge.specs.inner.Stages.{stated, Stating, Candidate, Sized, ready_at, Upheld}
+use Rattle.judge.specs.inner.Stages.{stated, Stating, Filled, Candidate, Sized, ready_at, Upheld}
 use Rattle.judge.proofs.Bitmaps.{front_unmarked}
+use Rattle.judge.proofs.Firsts.{front-stated}
+use Rattle.judge.proofs.Gathering.{fronts_alike}
 
 -- the bitmap of the candidate is its set
 holds-is : (ls : List Line) (x : List ℕ) → ◌≡◌ {A = Atoms} (is_marked x) (holds (ready_at ls x))
@@ -48,11 +53,11 @@ pub broken_as : (ls : List Line) (x : List ℕ) {v : Broken} → v ≡ first_bro
 broken_as ls x e = rw (← holds-is ls x) (sym e)
 
 -- what is founded by the bitmaps is founded by the candidate with the external atoms of the lines
-pub founded_as : {ls : List Line} {m : ℕ} {atoms xs ys : List ℕ} {ks : List ℤ} {x ext : List ℕ} (v : Founding)
-    → Stating ls m atoms xs ys ks → Candidate x → MarksThose atom_places ext (λ a. among a (take m atoms) && not (headed ls a))
+pub founded_as : {ls : List Line} {atoms : List ℕ} {ds : List Difference} {x ext : List ℕ} (v : Founding)
+    → Stating ls atoms ds → Candidate x → MarksThose atom_places ext (λ a. among a atoms && not (headed ls a))
     → FoundedBy v (is_marked x) (is_marked ext) ls → FoundedBy v (holds (ready_at ls x)) (external ls) ls
-founded_as {ls} {m} {atoms} {xs} {ys} {ks} {x} {ext} v p w b h =
-    let e = externals-are ls atoms xs ys ks m p.stated ext p.small p.roomy.in_atoms b in
+founded_as {ls} {atoms} {ds} {x} {ext} v p w b h =
+    let e = externals-are ls atoms ds (length atoms) p.stated ext p.small (omega arith) (rw (take-length atoms) b) in
     let o : ◌≡◌ {A = Atoms} (is_marked ext) (external ls) = fun_ext e in
     rw (← holds-is ls x, ← o) h
 
@@ -63,6 +68,15 @@ above_zero low (v ∷ vs) h = rw (ne_eqb 0 v (λ e. omega (arith, h.0))) (above_
 -- no candidate marks atom 0
 zero_unmarked : (s x : List ℕ) → candidate s ≡ got (atoms_of x) → is_marked x 0 ≡ false
 zero_unmarked s x e = sym (marked-holds x 0) ∙ above_zero 0 (atoms_of x) (candidate-ascending s (atoms_of x) e)
+
+-- slices that hold what lines state are filled within the bounds, with different atoms
+pub stating_filled : {ls : List Line} {atoms : List ℕ} {ds : List Difference} → Stating ls atoms ds → Filled atoms ds
+stating_filled {ls} {atoms} {ds} h =
+    record {
+      alike = h.alike;
+      small = listed_small ls (stated atoms ds) h.stated h.small;
+      differ = atoms-differ ls (stated atoms ds) h.stated;
+    }
 
 -- 1 refuses what was asked, or the rooms are long enough
 pub lent_refuses : (a : Asked) (b : Rooms) {k p : ℕ} → refused k p ≡ lent b → Judged a b (refusing b k p)
@@ -123,28 +137,34 @@ front-ready {ls} {x} {last} h = ap (ready ls) (marked-front 0 (last + 1) x h.non
 pub front-candidate : {x : List ℕ} {last : ℕ} → EndsAt last x → Candidate x → Candidate (take (last + 1) x)
 front-candidate {x} {last} h c = record { places = omega (arith, length-take-le (last + 1) x (omega (arith, h.places, h.small)), h.small); none = front_unmarked (last + 1) x 0 c.none }
 
--- of a text that has passed: its lines stand on the tape, the slices have the differences that they state, and the candidate decides in any rooms
-pub record Passed (a : Asked) (tape : List ℕ) (n : ℕ) (atoms xs ys : List ℕ) (ks : List ℤ) (m : ℕ) : Type 0 where
+-- of a text that has passed: its lines stand on the tape, the first m places of the slices have the differences that they state, and the candidate decides in any rooms
+pub record Passed (a : Asked) (tape : List ℕ) (n : ℕ) (atoms : List ℕ) (ds : List Difference) (m : ℕ) : Type 0 where
   pub taped : Ahead tape 0 n
   pub short : length tape ≤ longest_text
-  pub stating : Stating (lines_of tape n) m atoms xs ys ks
+  pub within : Within m atoms ds
+  pub stating : Stating (lines_of tape n) (take m atoms) (take m ds)
   pub decides : (b : Rooms) → Sized b.room b.cycle → readable a b ≡ pair (lines_of tape n) a.cand
 
-pub passed : (a : Asked) {long : ℕ} {tape : List ℕ} {n : ℕ} {atoms xs ys : List ℕ} {ks : List ℤ} {m : ℕ}
+pub passed : (a : Asked) {long : ℕ} {tape : List ℕ} {n : ℕ} {atoms : List ℕ} {ds : List Difference} {m : ℕ}
     → (length a.text ≤ long) × (long ≤ longest_text) → length tape ≡ long
-    → got (lines_of tape n) ≡ statements a.text → Ahead tape 0 n → got (stated m atoms xs ys ks) ≡ differences a.text (lines_of tape n) → Within m atoms xs ys ks
-    → Passed a tape n atoms xs ys ks m
-passed a {tape = tape} {n} pre k e w d r =
+    → got (lines_of tape n) ≡ statements a.text → Ahead tape 0 n → got (tabulated m (held_at atoms ds)) ≡ differences a.text (lines_of tape n) → Within m atoms ds
+    → Passed a tape n atoms ds m
+passed a {tape = tape} {n} {atoms} {ds} {m} pre k e w d r =
     record {
       taped = w;
       short = omega (arith, pre.1);
-      stating = record { small = in_range (lines_of tape n) (ahead_small tape 0 n w); stated = differences-got a.text (lines_of tape n) _ (sym d); roomy = r };
+      within = r;
+      stating = record {
+        small = in_range (lines_of tape n) (ahead_small tape 0 n w);
+        stated = rw (front-stated m atoms ds r) (differences-got a.text (lines_of tape n) _ (sym d));
+        alike = sym (fronts_alike r);
+      };
       decides = λ b z. pair-decides a b z (omega (arith, pre.0, pre.1)) (lines_of tape n) (sym e) _ (sym d);
     }
 
 -- ---- what was found
 
-module _ {a : Asked} {tape : List ℕ} {n : ℕ} {atoms xs ys : List ℕ} {ks : List ℤ} {m : ℕ} (p : Passed a tape n atoms xs ys ks m) where
+module _ {a : Asked} {tape : List ℕ} {n : ℕ} {atoms : List ℕ} {ds : List Difference} {m : ℕ} (p : Passed a tape n atoms ds m) where
   -- 7 refuses what was asked
   pub mispaired : {k q : ℕ} → refused k q ≡ candidate a.cand → (b : Rooms) → Sized b.room b.cycle → Judged a b (refusing b k q)
   mispaired e b z = unreadable _ _ (p.decides b z ∙ pair-refused _ _ _ _ e) refl
@@ -164,10 +184,11 @@ module _ {a : Asked} {tape : List ℕ} {n : ℕ} {atoms xs ys : List ℕ} {ks : 
       unfounding {q} u b z = judgeable _ (ready_for b z) (sound (broken_as _ _ w) (unsupported q (founded_as (unfounded_at q) p.stating (marked _ _ h e) o u) refl))
 
       -- the times decide
-      pub upheld : FoundedBy meaning.founded (is_marked x) (is_marked ext) (lines_of tape n) → Upheld a m last x atoms xs ys ks
+      pub upheld : FoundedBy meaning.founded (is_marked x) (is_marked ext) (lines_of tape n) → Upheld a m last x atoms ds
       upheld u =
           record {
             lines = lines_of tape n;
+            within = p.within;
             stating = p.stating;
             candidate = marked _ _ h e;
             ends = h;

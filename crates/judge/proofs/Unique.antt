@@ -10,7 +10,7 @@ use lib.IntN.{ℤ}
 use denote.Ref.{Bor}
 use Rattle.basics.specs.Lists.{All}
 use Rattle.faults.specs.Answer.{Answer, got}
-use Rattle.faults.specs.Values.{number}
+use Rattle.faults.specs.Values.{number, as_answer}
 use Rattle.faults.specs.declared.Refusal.{Refusal}
 use Rattle.faults.proofs.Numbers.{kind_of, kind_back}
 use Rattle.diffs.specs.Diff.{Diff, KeepsAll, whole, NegCycle}
@@ -18,8 +18,7 @@ use Rattle.diffs.proofs.Cycles.{exclusive}
 use Rattle.diffs.proofs.EarliestTimes.{earliest_unique}
 use Rattle.terms.specs.Terms.{external}
 use Rattle.stable.specs.Meaning.{SmallestUnfounded}
-use Rattle.timetable.specs.Times.{as_time, time_of}
-use Rattle.timetable.specs.declared.Time.{Time}
+use Rattle.timetable.specs.Times.{time_of}
 use Rattle.timetable.proofs.Answers.{one_time}
 use Rattle.judge.specs.Plan.{Asked, Rooms, Ready, holds, readable, InForce}
 use Rattle.judge.specs.Judged.{Judgement, acceptance, refusal, Result, refusing, showing, accepting, Each, NegativeCycle, table, Timed, impossible, possible, Supported, unsupported, supported, Weighed, breaks, sound, Judges, unreadable, judgeable, Judged}
@@ -28,6 +27,7 @@ use Rattle.judge.specs.Values.{as_verdict, as_result}
 use Rattle.judge.specs.declared.Verdict.{Verdict}
 use Rattle.judge.specs.declared.Verdict.TheVariants.{Accepted, Refused}
 use Rattle.judge.proofs.Ascent.{names_unique}
+use Rattle.std.specs.Prelude as prelude
 
 -- ---- cycles
 
@@ -140,7 +140,7 @@ judge_unique a b v v' room room' cycle cycle' h g =
 -- ---- the other two entry points
 
 -- two answers that the contract of `time` allows for the same slice and number are equal
-pub time_unique : (s : List ℕ) (n : ℕ) (t t' : Time) → as_time t ≡ time_of s n → as_time t' ≡ time_of s n → t ≡ t'
+pub time_unique : (s : List ℕ) (n : ℕ) (t t' : prelude.Result ℕ Refusal) → as_answer t ≡ time_of s n → as_answer t' ≡ time_of s n → t ≡ t'
 time_unique = one_time
 
 -- two parts that the contract of `show` allows for the same refusal, text and candidate are equal

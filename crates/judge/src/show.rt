@@ -10,39 +10,32 @@ use fields::{ends_of, part_end};
 fn in_text(kind: Kind) -> bool
     ensures { result ≡ in_text (number kind) }
 {
-    match kind {
+    matches!(
+        kind,
         Kind::Grammar
-        | Kind::Carried
-        | Kind::Bounds
-        | Kind::Twice
-        | Kind::Unknown
-        | Kind::Second
-        | Kind::NoDifference
-        | Kind::Broken => true,
-        _ => false,
-    }
+            | Kind::Carried
+            | Kind::Bounds
+            | Kind::Twice
+            | Kind::Unknown
+            | Kind::Second
+            | Kind::NoDifference
+            | Kind::Broken
+    )
 }
 
 // Whether the place of a refusal is in the candidate.
 fn in_candidate(kind: Kind) -> bool
     ensures { result ≡ eqb (number kind) 7 }
 {
-    match kind {
-        Kind::Candidate => true,
-        _ => false,
-    }
+    matches!(kind, Kind::Candidate)
 }
 
 // The part of a line from a place on; nothing from a place beyond the end.
 fn part_from(s: &[u8], place: usize) -> &[u8]
     ensures { Part result s.entry place }
 {
-    let n = s.len();
-    if n <= place {
-        return &s[n..n];
-    }
-    let end = part_end(s, place, ends_of(s));
-    &s[place..end]
+    let rest = &s[place.min(s.len())..];
+    &rest[..part_end(rest, 0, ends_of(s))]
 }
 
 // The faulty part of the text or of the candidate; nothing for a refusal that has no place in them.
@@ -57,6 +50,5 @@ pub fn show<'a>(text: &'a [u8], cand: &'a [u8], refusal: Refusal) -> &'a [u8]
     if in_candidate(kind) {
         return part_from(cand, place);
     }
-    let n = text.len();
-    &text[n..]
+    &text[text.len()..]
 }

@@ -1,10 +1,10 @@
 -- What a packed number stands for, by cases. Assumes nothing.
-use Prim.Native.Nat.{ℕ, ◌+◌, ◌*◌, ◌≤◌, ◌<◌, min}
-use mathlib.Core.Path.{◌≡◌, refl, ap}
+use Prim.Native.Nat.{ℕ, ◌≤◌, ◌<◌}
+use mathlib.Core.Path.{◌≡◌, refl, sym, ap}
+use Rattle.std.specs.Prelude.{◌≢◌}
 use mathlib.Core.Bool.{Bool, true, false}
 use mathlib.Core.List.{List, [], ◌∷◌}
 use native.Mathlib.Omega.{arith}
-use borrow.Author.Tests.{eq-eqb, ne_eqb}
 use lib.Dec.{eqb}
 use lib.ListN.{length}
 use Rattle.basics.specs.Bools.{pick}
@@ -25,21 +25,13 @@ use Rattle.judge.specs.declared.Verdict.TheVariants.{Accepted, Refused}
 use Rattle.judge.specs.Shown.{text_numbers, in_text, shown}
 use Rattle.judge.proofs.Parts.{shown-none}
 use Rattle.judge.proofs.Places.{places-bounded}
-use Rattle.judge_c.specs.Packed.{half, largest_half, packed_time, packed_part}
+use Rattle.judge_c.specs.Packed.{half}
 use Rattle.judge_c.specs.inner.Steps.{Fitting}
 
 -- what the judge may give fits the lower half
 pub fits : (i : Asked) (v : Verdict) {b a : Rooms} → Judged i b (record { verdict = as_verdict v; rooms = a }) → Fitting v
 fits i (Accepted n) {b} j = let h = places-bounded i b _ j in omega arith
 fits i (Refused f) {b} j = let h = places-bounded i b _ j in omega arith
-
--- a time
-pub times : (a : Answer ℕ) (t r : ℕ) → got t ≡ a → r ≡ 0 * half + t → r ≡ packed_time a
-times a t r g e = rw (← g) (omega arith)
-
--- 20 or 21
-pub timeless : (a : Answer ℕ) (k p r : ℕ) → refused k p ≡ a → r ≡ k * half + p → r ≡ packed_time a
-timeless a k p r g e = rw (← g) e
 
 -- a time fits the lower half; a refusal has a number, and its place is at most the term asked for
 abbrev pub TimeFits : (term : ℕ) → Answer ℕ → Type 0
@@ -69,18 +61,10 @@ time-fits s u = go (is_table s) refl
 pub time-place : (s : List ℕ) (u k p : ℕ) → refused k p ≡ time_of s u → p ≤ u
 time-place s u k p e = let h : TimeFits u (refused k p) = rw (← e) at (time-fits s u) in h.1
 
--- an empty part
-pub no_part : (p n : ℕ) → n ≡ 0 → 0 ≡ packed_part p n
-no_part p n e = rw (eq-eqb n 0 e)
-
--- a part that is not empty
-pub some-part : (p n m r : ℕ) → (n ≡ 0 → ⊥) → m ≡ min n largest_half → r ≡ p * half + m → r ≡ packed_part p n
-some-part p n m r any f e = rw (ne_eqb n 0 any, ← f) e
-
 -- a number that no kind has shows nothing
-module _ (n : ℕ) (none : (k : Kind) → number k ≡ n → ⊥) where
+module _ (n : ℕ) (none : (k : Kind) → n ≢ number k) where
   not-in_text : in_text n ≡ false
-  not-in_text = among_none n none text_numbers refl
+  not-in_text = among_none n (λ k e. none k (sym e)) text_numbers refl
 
   pub nothing_shown : (p : ℕ) (text cand : List ℕ) → 0 ≡ length (shown n p text cand)
-  nothing_shown p text cand = ap length (shown-none n p text cand not-in_text (no_number n none Candidate))
+  nothing_shown p text cand = ap length (shown-none n p text cand not-in_text (no_number n (λ k e. none k (sym e)) Candidate))

@@ -8,24 +8,16 @@ ghost use Rattle.judge.specs.Plan.{asked};
 ghost use Rattle.judge.specs.Shown.{shown};
 ghost use Rattle.judge.specs.Values.{rooms, as_verdict};
 ghost use Rattle.judge_c.specs.Packed.{half, largest_half, packed, packed_time, packed_part, Answers};
-ghost use Rattle.judge_c.specs.inner.Steps.{Fitting, Found};
+ghost use Rattle.judge_c.specs.inner.Steps.{Fitting};
 
 use faults::{Kind, Refusal, SHORT_TEXT, TermNo};
 use judge::Verdict;
-use timetable::Time;
 
 // A half holds the numbers below this.
 const HALF: u64 = 4294967296;
 
 // The largest of them.
 const LARGEST_HALF: u32 = 4294967295;
-
-// What a number names: a kind of refusal, or none.
-#[derive(Clone, Copy)]
-enum Named {
-    Is(Kind),
-    Nothing,
-}
 
 // One number above, the other below.
 fn pack(above: u32, below: u32) -> u64
@@ -39,57 +31,25 @@ fn pack_refusal(refusal: Refusal) -> u64
     requires { refusal.place < half }
     ensures { result ≡ number refusal.kind * half + refusal.place }
 {
-    let kind = refusal.kind;
     let place = refusal.place as u32;
-    pack(kind.number(), place)
+    pack(refusal.kind.number(), place)
 }
 
 // A length as a half: the largest where it is longer.
 fn half_of(length: usize) -> u32
     ensures { result ≡ min length largest_half }
 {
-    if length > LARGEST_HALF as usize {
-        return LARGEST_HALF;
-    }
-    length as u32
-}
-
-// The kind that a number names.
-fn kind_of(number: u32) -> Named
-    ensures { Found number result }
-{
-    match number {
-        1 => Named::Is(Kind::Room),
-        2 => Named::Is(Kind::Long),
-        3 => Named::Is(Kind::Grammar),
-        4 => Named::Is(Kind::Carried),
-        5 => Named::Is(Kind::Bounds),
-        61 => Named::Is(Kind::Twice),
-        62 => Named::Is(Kind::Unknown),
-        63 => Named::Is(Kind::Second),
-        64 => Named::Is(Kind::NoDifference),
-        7 => Named::Is(Kind::Candidate),
-        8 => Named::Is(Kind::Broken),
-        9 => Named::Is(Kind::Unfounded),
-        10 => Named::Is(Kind::Cycle),
-        11 => Named::Is(Kind::Late),
-        20 => Named::Is(Kind::NotTable),
-        21 => Named::Is(Kind::NotNamed),
-        _ => Named::Nothing,
-    }
+    length.min(LARGEST_HALF as usize) as u32
 }
 
 // The length of the part that is shown for a number and a place.
 fn shown_length<'a>(text: &'a [u8], cand: &'a [u8], number: u32, place: u32) -> usize
     ensures { result ≡ length (shown number place text.now cand.now) }
 {
-    let a = kind_of(number);
-    let Named::Is(kind) = a else {
+    let Ok(kind) = Kind::try_from(number) else {
         return 0;
     };
-    let at = place as usize;
-    let part = judge::show::show(text, cand, Refusal { kind, place: at });
-    part.len()
+    judge::show::show(text, cand, kind.at(place as usize)).len()
 }
 
 // A verdict: 0 above and the timetable's length below, or the refusal's number above and its place below.
@@ -113,8 +73,7 @@ pub extern "C" fn plan_judge_long(
 ) -> u64
     ensures { Answers (asked text.now cand.now) (rooms room.old cycle.old) (rooms room.new cycle.new) result }
 {
-    let a = judge::judge_long(text, cand, room, cycle);
-    pack_verdict(a)
+    pack_verdict(judge::judge_long(text, cand, room, cycle))
 }
 
 // The verdict, packed; by a small frame where the text is short.
@@ -123,8 +82,7 @@ pub extern "C" fn plan_judge(text: &[u8], cand: &[u8], room: &mut [u8], cycle: &
     ensures { Answers (asked text.now cand.now) (rooms room.old cycle.old) (rooms room.new cycle.new) result }
 {
     if text.len() <= SHORT_TEXT {
-        let a = judge::judge_short(text, cand, room, cycle);
-        return pack_verdict(a);
+        return pack_verdict(judge::judge_short(text, cand, room, cycle));
     }
     plan_judge_long(text, cand, room, cycle)
 }
@@ -134,10 +92,9 @@ pub extern "C" fn plan_judge(text: &[u8], cand: &[u8], room: &mut [u8], cycle: &
 pub extern "C" fn plan_time(table: &[u8], term: u32) -> u64
     ensures { result ≡ packed_time (time_of table.now term) }
 {
-    let a = judge::time(table, TermNo(term));
-    match a {
-        Time::At(t) => pack(0, t),
-        Time::Refused(refusal) => pack_refusal(refusal),
+    match judge::time(table, TermNo(term)) {
+        Ok(time) => pack(0, time),
+        Err(refusal) => pack_refusal(refusal),
     }
 }
 
@@ -150,6 +107,5 @@ pub extern "C" fn plan_shown<'a>(text: &'a [u8], cand: &'a [u8], number: u32, pl
     if bytes == 0 {
         return 0;
     }
-    let n = half_of(bytes);
-    pack(place, n)
+    pack(place, half_of(bytes))
 }

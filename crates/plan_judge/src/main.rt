@@ -13,7 +13,7 @@ const FRONT: usize = 65536;
 // Prints bytes; if they can't be written, says so on standard error.
 fn print<R: Print + Eprint>(rt: &R, s: &[u8]) {
     if rt.write_all(s).is_err() {
-        let _ = rt.eprint("plan_judge: can't write the verdict\n");
+        let _ = eprintln!(rt; "plan_judge: can't write the verdict");
     }
 }
 

@@ -7,80 +7,38 @@ ghost use Rattle.files.specs.inner.Cases.{case_at, next_at};
 ghost use Rattle.faults.specs.Limits.{longest_text};
 ghost use Rattle.aspif.specs.inner.Kept.{Ahead};
 
-use aspif::candidate::{Marked, candidate};
+use aspif::candidate::candidate;
 use aspif::walk::{after_at, word_at};
-use faults::{ATOM_PLACES, LONGEST_TEXT, Refusal, Step};
-use files::container::{Case, case_at};
+use aspif::words::{KIND, PLACE, SAYS};
+use faults::{ATOM_PLACES, LONGEST_TEXT};
+use files::container::case_at;
 use files::load;
 use timetable::count_marked;
 
-// What the cases of a container are.
-#[derive(Clone, Copy)]
-enum Holds {
-    Texts,
-    Candidates,
-}
+// Of a line on the tape: the first of the fields behind its kind.
+const FIELDS: usize = 3;
 
-// Prints bytes.
-fn print<R: Print>(rt: &R, s: &[u8]) {
-    let _ = rt.write_all(s);
-}
-
-// Prints a number.
-fn print_number<R: Print>(rt: &R, n: u64) {
-    let _ = rt.print(n);
-}
-
-// Prints a space and a number.
-fn print_next<R: Print>(rt: &R, n: u64) {
-    print(rt, b" ");
-    print_number(rt, n);
-}
-
-// Prints a name and a line end.
-fn print_name<R: Print>(rt: &R, name: &[u8]) {
-    print(rt, name);
-    print(rt, b"\n");
-}
-
-// Prints a refusal's number and place.
-fn print_refusal<R: Print>(rt: &R, r: Refusal) {
-    let kind = r.kind;
-    let place = r.place;
-    print(rt, b"refused");
-    print_next(rt, kind.number() as u64);
-    print_next(rt, place as u64);
-    print(rt, b"\n");
-}
-
-// Prints the line of a tape from p to before end: its kind, its place, its fields, and a line end.
-fn print_line<R: Print>(rt: &R, tape: &[u32], p: usize, end: usize)
-    requires { p ≤ length tape.now }
-{
-    print_number(rt, word_at(tape, p, 2) as u64);
-    print_next(rt, word_at(tape, p, 0) as u64);
-    let mut i = p + 3;
-    while i < end {
-        print_next(rt, word_at(tape, i, 0) as u64);
-        i += 1;
+// Prints a line of a tape: its kind, its place, its fields, and a line end.
+fn print_line<R: Print>(rt: &R, line: &[u32]) {
+    let kind = word_at(line, SAYS, KIND);
+    let place = word_at(line, 0, PLACE);
+    let _ = print!(rt; "{kind} {place}");
+    for field in line.iter().skip(FIELDS) {
+        let _ = print!(rt; " {field}");
     }
-    print(rt, b"\n");
+    let _ = println!(rt);
 }
 
 // Prints how many lines a tape has, and each of them.
 fn print_lines<R: Print>(rt: &R, tape: &[u32], n: usize)
     requires { Ahead tape.now 0 n }
 {
-    print(rt, b"read");
-    print_next(rt, n as u64);
-    print(rt, b"\n");
-    let mut p: usize = 0;
-    let mut left = n;
-    while 0 < left {
+    let _ = println!(rt; "read {n}");
+    let mut p = 0;
+    for _line in 0..n {
         let end = after_at(tape, p);
-        print_line(rt, tape, p, end);
+        print_line(rt, &tape[p..end]);
         p = end;
-        left -= 1;
     }
 }
 
@@ -89,65 +47,60 @@ fn print_text<R: Print>(rt: &R, s: &[u8])
     requires { length s.now ≤ longest_text }
 {
     let mut tape = [0u32; LONGEST_TEXT];
-    let a = aspif::read(s, &mut tape);
-    match a {
-        Step::Good(n) => print_lines(rt, &tape, n),
-        Step::Refused(r) => print_refusal(rt, r),
+    match aspif::read(s, &mut tape) {
+        Ok(n) => print_lines(rt, &tape, n),
+        Err(refusal) => {
+            let _ = println!(rt; "{refusal}");
+        }
     }
 }
 
 // Prints how many atoms a bitmap holds, and each of them.
 fn print_atoms<R: Print>(rt: &R, x: &[u8]) {
-    print(rt, b"candidate");
-    print_next(rt, count_marked(x, 0) as u64);
-    let mut i = 0;
-    while i < x.len() {
-        if x[i] == 1 {
-            print_next(rt, i as u64);
+    let count = count_marked(x, 0);
+    let _ = print!(rt; "candidate {count}");
+    for (atom, mark) in x.iter().enumerate() {
+        if *mark == 1 {
+            let _ = print!(rt; " {atom}");
         }
-        i += 1;
     }
-    print(rt, b"\n");
+    let _ = println!(rt);
 }
 
 // Reads a candidate, and prints what that gives.
+#[tactic(auto, using(aspif::proofs::Candidates::blank_zeros))]
 fn print_candidate<R: Print>(rt: &R, s: &[u8]) {
     let mut x = [0u8; ATOM_PLACES];
-    let a = candidate(s, &mut x);
-    match a {
-        Marked::Done(_) => print_atoms(rt, &x),
-        Marked::Refused(r) => print_refusal(rt, r),
+    match candidate(s, &mut x) {
+        Ok(_) => print_atoms(rt, &x),
+        Err(refusal) => {
+            let _ = println!(rt; "{refusal}");
+        }
     }
 }
 
-// Reads a case, and prints what that gives.
-fn print_case<R: Print>(rt: &R, s: &[u8], holds: Holds)
-    requires { length s.now ≤ longest_text }
-{
-    match holds {
-        Holds::Texts => print_text(rt, s),
-        Holds::Candidates => print_candidate(rt, s),
-    }
-}
-
-// Runs the case at a place of a container, and gives the place of the next; the end where no whole case stands.
-fn run_at<R: Print>(rt: &R, s: &[u8], at: usize, holds: Holds) -> usize
+// Prints the name of the case at a place of a container and what its bytes give, and answers the place of the next; the end where no whole case stands.
+fn run_at<R: Print, F: Fn(&[u8])>(rt: &R, s: &[u8], at: usize, print_case: &F) -> usize
+    requires { (case : _) → length case.now ≤ longest_text → F.pre print_case.now case }
     ensures { result ≡ next_at s.now (case_at s.now at) }
 {
-    let a = case_at(s, at);
-    let Case::At(name, start, end) = a else {
+    let Some(case) = case_at(s, at) else {
         return s.len();
     };
-    print_name(rt, &s[at..name]);
-    print_case(rt, &s[start..end], holds);
-    end + 1
+    let _ = rt.write_all(&s[at..case.name]);
+    let _ = println!(rt);
+    print_case(&s[case.start..case.end]);
+    case.end + 1
 }
 
 // Runs the cases of a container.
-fn run<R: Print>(rt: &R, s: &[u8], holds: Holds) {
+#[tactic(auto, using(files::proofs::Cases::next_further))]
+fn run<R: Print, F: Fn(&[u8])>(rt: &R, s: &[u8], print_case: &F)
+    requires { (case : _) → length case.now ≤ longest_text → F.pre print_case.now case }
+{
     let mut at = 0;
     while at < s.len() {
-        at = run_at(rt, s, at, holds);
+        at = run_at(rt, s, at, print_case);
     }
 }
 
@@ -155,7 +108,7 @@ fn run<R: Print>(rt: &R, s: &[u8], holds: Holds) {
 fn main(rt: HostRuntime) {
     let mut buf = [0u8; 131072];
     let n = load(&rt, b"texts", &mut buf);
-    run(&rt, &buf[..n], Holds::Texts);
+    run(&rt, &buf[..n], &|s: &[u8]| print_text(&rt, s));
     let m = load(&rt, b"candidates", &mut buf);
-    run(&rt, &buf[..m], Holds::Candidates);
+    run(&rt, &buf[..m], &|s: &[u8]| print_candidate(&rt, s));
 }

@@ -1,5 +1,5 @@
 -- The lines by their parts: of records and lists the next and the others, of an acceptance and a refusal each part in turn. Assumes nothing.
-use Prim.Native.Nat.{ℕ, zero, suc, ◌+◌, ◌-◌, ◌≤◌, ◌<◌}
+use Prim.Native.Nat.{ℕ, suc, ◌+◌, ◌-◌, ◌*◌, ◌≤◌, ◌<◌}
 use mathlib.Core.Path.{◌≡◌, refl}
 use mathlib.Core.List.{List, [], ◌∷◌, ◌++◌, append-nil}
 use native.Mathlib.Omega.{arith}
@@ -14,18 +14,19 @@ use Rattle.report.specs.Report.{decimal, spaced, two, spaced_all, list_line, rec
 use Rattle.report.specs.inner.Steps.{Put, RoomAt}
 use Rattle.report.proofs.Putting.{put_both, fits-first, fits-second}
 
-module _ (t : List ℕ) (p : ℕ) where
-  -- a line, then the others
-  pub records-more : (left : ℕ) → 0 < left
-      → record_lines (records_at t left p) ≡ record_line (record { name = word_at t p; time = word_at t (p + 4) }) ++ record_lines (records_at t (left - 1) (p + 8))
+module _ (t : List ℕ) (n i : ℕ) where
+  -- of n records, from record i on: a line, then the others
+  pub records-more : i < n
+      → record_lines (records_at t (n - i) (16 + 8 * i)) ≡ record_line (record { name = word_at t (16 + 8 * i); time = word_at t (16 + 8 * i + 4) }) ++ record_lines (records_at t (n - (i + 1)) (16 + 8 * (i + 1)))
   unfolding record_lines records_at
-  records-more zero h = absurd (omega (arith, h))
-  records-more (suc left) h = let e : suc left - 1 ≡ left = omega arith in rw e
+  records-more h =
+      let left : n - i ≡ suc (n - (i + 1)) = omega arith in
+      let next : 16 + 8 * (i + 1) ≡ 16 + 8 * i + 8 = omega arith in
+      rw (left, next)
 
-  pub records-none : (left : ℕ) → left ≤ 0 → record_lines (records_at t left p) ≡ []
+  pub records-none : n ≤ i → record_lines (records_at t (n - i) (16 + 8 * i)) ≡ []
   unfolding record_lines records_at
-  records-none zero h = refl
-  records-none (suc left) h = absurd (omega (arith, h))
+  records-none h = let none : n - i ≡ 0 = omega arith in rw none
 
 module _ (vs : List ℕ) (i : ℕ) where
   -- a number, then the others
@@ -44,10 +45,9 @@ list-none [] h = refl
 list-none (v ∷ vs) h = absurd (omega (arith, h))
 
 -- the first number, the others, the line end
-pub list-some : (vs : List ℕ) → (length vs ≡ 0 → ⊥) → list_line vs ≡ decimal (get_or vs 0 0) ++ spaced_all (drop 1 vs) ++ (10 ∷ [])
+pub list-some : {l : List ℕ} (v : ℕ) (vs : List ℕ) → l ≡ v ∷ vs → list_line l ≡ decimal v ++ spaced_all vs ++ (10 ∷ [])
 unfolding list_line
-list-some [] h = absurd (h refl)
-list-some (v ∷ vs) h = refl
+list-some v vs h = rw h
 
 -- ---- an acceptance: the word, the counts, the records
 

@@ -1,11 +1,10 @@
 -- Writing in steps: what follows where a step ends is one step with it, and a step that fits leaves the next its place. Assumes nothing.
-use Prim.Native.Nat.{ℕ, suc, ◌+◌, ◌≤◌, ◌<◌}
-use mathlib.Core.Path.{◌≡◌, refl, ap, sym, ◌∙◌}
-use mathlib.Core.List.{List, [], ◌∷◌, ◌++◌}
+use Prim.Native.Nat.{ℕ, ◌+◌, ◌-◌, ◌≤◌}
+use mathlib.Core.Path.{◌≡◌, ap, sym, ◌∙◌}
+use mathlib.Core.List.{List, [], ◌++◌, append_assoc}
 use native.Mathlib.Omega.{arith}
-use lib.ListN.{length, get_or, set, take, length-append}
-use lib.Seq.{sets, length-sets, take-suc, take_all, length-take-le}
-use Rattle.io.specs.Counts.{IsPrefixLen}
+use lib.ListN.{length, take, drop, length-append}
+use lib.Seq.{sets, sets-eq, length-sets, drop-drop}
 use Rattle.timetable.proofs.Stores.{sets_next}
 use Rattle.report.specs.inner.Steps.{Put, RoomAt}
 
@@ -25,12 +24,6 @@ module _ {xs a : List ℕ} {o : ℕ} {b : List ℕ} {p : ℕ} (s : Put xs a o b 
   pub fits-second : (ys : List ℕ) → RoomAt (xs ++ ys) a o → RoomAt ys b p
   fits-second ys h = record { fits = omega (arith, h.fits, put-length, s.ends, length-append xs ys) }
 
--- what fits from the first place on counts bytes there
-pub put-counts : {xs a b : List ℕ} {n : ℕ} → RoomAt xs a 0 → Put xs a 0 b n → IsPrefixLen n b
-put-counts {xs} {a} {b} {n} h s =
-    let l : n ≤ length b = omega (arith, h.fits, s.ends, put-length s) in
-    (l, sym (length-take-le n b l))
-
 -- where both steps fit, the first fits
 pub fits-first : {xs a : List ℕ} {o : ℕ} (ys : List ℕ) → RoomAt (xs ++ ys) a o → RoomAt xs a o
 fits-first {xs} ys h = record { fits = omega (arith, h.fits, length-append xs ys) }
@@ -42,9 +35,6 @@ pub record Rest (rest whole a : List ℕ) (o : ℕ) (b : List ℕ) (p : ℕ) : T
   pub is : sets b p rest ≡ sets a o whole
   pub ends : p + length rest ≡ o + length whole
   pub size : length b ≡ length a
-
-pub rest_all : (whole a : List ℕ) (o : ℕ) → Rest whole whole a o a o
-rest_all whole a o = record { is = refl; ends = refl; size = refl }
 
 module _ {rest whole a : List ℕ} {o : ℕ} {b : List ℕ} {p : ℕ} (h : Rest rest whole a o b p) where
   -- they fit where all fit
@@ -63,34 +53,10 @@ module _ {rest whole a : List ℕ} {o : ℕ} {b : List ℕ} {p : ℕ} (h : Rest 
   pub rest-none : rest ≡ [] → Put whole a o b p
   rest-none e = record { is = ap (sets b p) (sym e) ∙ h.is; ends = omega (arith, h.ends, ap length e) }
 
--- ---- one byte after another
+-- ---- a part copied
 
--- the first i bytes of a part were written at a place
-pub record Copied (part a : List ℕ) (o i : ℕ) (b : List ℕ) : Type 0 where
-  pub few : i ≤ length part
-  pub is : b ≡ sets a o (take i part)
-
-pub copied_none : (part a : List ℕ) (o : ℕ) → Copied part a o 0 a
-copied_none part a o = record { few = omega arith; is = refl }
-
-pub copied_length : {part a : List ℕ} {o i : ℕ} {b : List ℕ} → Copied part a o i b → length b ≡ length a
-copied_length {part} {a} {o} {i} s = ap length s.is ∙ length-sets a o (take i part)
-
--- one byte more
-pub copied_more : {part a : List ℕ} {o i : ℕ} {b : List ℕ} → Copied part a o i b → i < length part
-    → Copied part a o (i + 1) (set b (o + i) (get_or part i 0))
-copied_more {part} {a} {o} {i} {b} s h =
-    let p : o + i ≡ o + length (take i part) = ap (λ (n : ℕ). o + n) (sym (length-take-le i part s.few)) in
-    let n : i + 1 ≡ suc i = omega arith in
-    let more : take i part ++ (get_or part i 0 ∷ []) ≡ take (i + 1) part = rw n (sym (take-suc part i 0 h)) in
-    record {
-      few = omega (arith, h);
-      is = sets_next a b o (o + i) (take i part) (get_or part i 0 ∷ []) s.is p ∙ ap (sets a o) more;
-    }
-
--- all of them
-pub copied_all : {part a : List ℕ} {o i : ℕ} {b : List ℕ} → Copied part a o i b → length part ≤ i → Put part a o b (o + i)
-copied_all {part} {a} {o} {i} {b} s h = record {
-  is = s.is ∙ ap (sets a o) (take_all i part h);
-  ends = omega (arith, s.few, h);
-}
+-- a part that is copied in its place, from a to before e, is stored there
+pub copied_mid : (part l : List ℕ) (a e : ℕ) → e ≡ a + length part → e ≤ length l → take a l ++ (part ++ drop (e - a) (drop a l)) ≡ sets l a part
+copied_mid part l a e h n =
+    let k : e - a ≡ length part = omega arith in
+    rw (k, drop-drop (length part) a l, sets-eq part l a (omega arith), append_assoc)

@@ -18,24 +18,18 @@ use timetable::{HEADER, word_at};
 // The refusal that has a list.
 const LISTED: u32 = 10;
 
-// A number as a wider one.
-fn wide(n: u32) -> u64
-    ensures { result ≡ n }
-{
-    n as u64
-}
+// The bytes of a record: its name and its time, four bytes each.
+const RECORD: usize = 8;
 
 // Writes some bytes at a place, and gives the place after them.
+// Kept: the place beside the buffer, as `RoomAt` and `Put` name both; std's writer over `&mut [u8]` states nothing of its bytes, so `write!` can't promise these.
 fn put(out: &mut [u8], at: usize, part: &[u8]) -> usize
     requires { RoomAt part.now out.old at }
     ensures { Put part.now out.old at out.new result }
 {
-    let mut i = 0;
-    while i < part.len() {
-        out[at + i] = part[i];
-        i += 1;
-    }
-    at + i
+    let end = at + part.len();
+    out[at..end].copy_from_slice(part);
+    end
 }
 
 // Writes a number at a place, and gives the place after it.
@@ -72,8 +66,8 @@ fn put_record(out: &mut [u8], at: usize, name: TermNo, time: u32) -> usize
     requires { RoomAt (record_line (record { name = name.0; time = time })) out.old at }
     ensures { Put (record_line (record { name = name.0; time = time })) out.old at out.new result }
 {
-    let a = put_number(out, at, wide(name.0));
-    let b = put_next(out, a, time as u64);
+    let a = put_number(out, at, u64::from(name.0));
+    let b = put_next(out, a, u64::from(time));
     put(out, b, b"\n")
 }
 
@@ -83,15 +77,11 @@ fn put_records(out: &mut [u8], at: usize, table: &[u8], n: usize) -> usize
     ensures { Put (record_lines (records_at table.now n header_length)) out.old at out.new result }
 {
     let mut end = at;
-    let mut p = HEADER;
-    let mut left = n;
-    while 0 < left {
+    for i in 0..n {
+        let p = HEADER + RECORD * i;
         let name = word_at(table, p);
-        let q = p + 4;
-        let time = word_at(table, q);
+        let time = word_at(table, p + 4);
         end = put_record(out, end, TermNo(name), time);
-        p += 8;
-        left -= 1;
     }
     end
 }
@@ -104,21 +94,18 @@ fn put_accepted(out: &mut [u8], room: &[u8]) -> usize
     let n = word_at(room, 0);
     let m = word_at(room, 4);
     let a = put(out, 0, b"accepted");
-    let b = put_two(out, a, n as u64, m as u64);
+    let b = put_two(out, a, u64::from(n), u64::from(m));
     put_records(out, b, room, n as usize)
 }
 
-// Writes the numbers of a list from its second on at a place, a space before each; gives the place after them.
-fn put_others(out: &mut [u8], at: usize, list: &[u32]) -> usize
-    requires { RoomAt (spaced_all (drop 1 list.now)) out.old at }
-    ensures { Put (spaced_all (drop 1 list.now)) out.old at out.new result }
+// Writes numbers at a place, a space before each; gives the place after them.
+fn put_others(out: &mut [u8], at: usize, others: &[u32]) -> usize
+    requires { RoomAt (spaced_all others.now) out.old at }
+    ensures { Put (spaced_all others.now) out.old at out.new result }
 {
     let mut end = at;
-    let mut i = 1;
-    while i < list.len() {
-        let v = list[i];
-        i += 1;
-        end = put_next(out, end, wide(v));
+    for v in others {
+        end = put_next(out, end, u64::from(*v));
     }
     end
 }
@@ -128,11 +115,11 @@ fn put_list(out: &mut [u8], at: usize, list: &[u32]) -> usize
     requires { RoomAt (list_line list.now) out.old at }
     ensures { Put (list_line list.now) out.old at out.new result }
 {
-    if list.len() == 0 {
+    let Some((first, others)) = list.split_first() else {
         return put(out, at, b"\n");
-    }
-    let a = put_number(out, at, wide(list[0]));
-    let b = put_others(out, a, list);
+    };
+    let a = put_number(out, at, u64::from(*first));
+    let b = put_others(out, a, others);
     put(out, b, b"\n")
 }
 
@@ -141,17 +128,15 @@ fn put_refused(out: &mut [u8], refusal: Refusal, cycle: &[u32]) -> usize
     requires { RoomAt (refused_lines (number refusal.kind) refusal.place cycle.now) out.old 0 }
     ensures { Put (refused_lines (number refusal.kind) refusal.place cycle.now) out.old 0 out.new result }
 {
-    let kind = refusal.kind;
+    let number = refusal.kind.number();
     let place = refusal.place;
     let a = put(out, 0, b"refused");
-    let b = put_two(out, a, kind.number() as u64, place as u64);
-    if kind.number() != LISTED {
+    let b = put_two(out, a, u64::from(number), place as u64);
+    if number != LISTED {
         return b;
     }
-    if cycle.len() < place {
-        return put_list(out, b, cycle);
-    }
-    put_list(out, b, &cycle[..place])
+    let end = place.min(cycle.len());
+    put_list(out, b, &cycle[..end])
 }
 
 // Writes what is printed of a verdict with both rooms, and gives its length.

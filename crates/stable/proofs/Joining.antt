@@ -10,14 +10,14 @@ use Rattle.stable.specs.Meaning.{Atoms, Obeyed, Closed, InLeast, Founding, found
 use Rattle.stable.specs.inner.Index.{Indexed}
 use Rattle.stable.specs.inner.Steps.{ClosedBy, LeastBy, Sought}
 
-module _ {t : List ℕ} {n : ℕ} {index : List ℕ} {m : ℕ} (k : Indexed t n index m) where
-  by_index : {X ext S : Atoms} → Closed X ext (lines_of t n) S → ClosedBy X ext t index m S
+module _ {t : List ℕ} {n : ℕ} {index : List ℕ} (k : Indexed t n index) where
+  by_index : {X ext S : Atoms} → Closed X ext (lines_of t n) S → ClosedBy X ext t index S
   by_index c = record { facts = c.facts; rules = λ i h. c.rules _ (k.sound i h) }
 
-  by_lines : {X ext S : Atoms} → ClosedBy X ext t index m S → Closed X ext (lines_of t n) S
+  by_lines : {X ext S : Atoms} → ClosedBy X ext t index S → Closed X ext (lines_of t n) S
   by_lines {X} {ext} {S} c = record { facts = c.facts; rules = λ r s. let q = k.whole r s in subst (Obeyed X S) q.is (c.rules q.i q.below) }
 
-  module _ (x f : List ℕ) (ext : Atoms) (l : LeastBy (is_marked x) ext t index m f) where
+  module _ (x f : List ℕ) (ext : Atoms) (l : LeastBy (is_marked x) ext t index f) where
     -- what founding found is the least model
     exact : (a : ℕ) → (is_marked f a ≡ true) ↔ InLeast (is_marked x) ext (lines_of t n) a
     exact a = ((λ e S c. l.below S (by_index c) a e), (λ g. g (is_marked f) (by_lines l.model)))

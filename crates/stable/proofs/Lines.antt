@@ -1,10 +1,11 @@
 -- Lines on the tape: when one is a rule, that a rule can be read, and the first of the words of a list. Assumes nothing.
-use Prim.Native.Nat.{ℕ, zero, suc, ◌+◌, ◌-◌, ◌≤◌}
+use Prim.Native.Nat.{ℕ, zero, suc, ◌+◌, ◌≤◌, ◌<◌}
 use mathlib.Core.List.{List, ◌∷◌}
 use mathlib.Core.Option.{some}
-use mathlib.Core.Path.{◌≡◌, refl}
+use mathlib.Core.Path.{◌≡◌, refl, ap}
 use native.Mathlib.Omega.{arith}
-use lib.ListN.{length, get_or, length-append}
+use lib.ListN.{length, get_or, length-append, take, drop}
+use lib.Seq.{drop-cons}
 use Rattle.aspif.specs.Statements.{Head, empty, single, choice, Body, normal, weights, rule_in}
 use Rattle.aspif.specs.inner.Words.{rule_kind, head_words, body_words, words_of, word, words_from, says_at, after}
 use Rattle.aspif.specs.inner.Kept.{LineOn}
@@ -42,13 +43,15 @@ rule-long {t} {p} l e =
     let y = rw (rule-says t (p + 2) e) at z in
     omega (arith, y, head-long h, body-long b, length-append (head_words h) (body_words b))
 
--- a word as the code reads it
-pub read_word : (t : List ℕ) (p : ℕ) → get_or t p 0 ≡ word t p
-unfolding word
-read_word t p = refl
+-- n words as the code cuts them out
+pub words_cut : (t : List ℕ) (p n : ℕ) → p + n ≤ length t → take n (drop p t) ≡ words_from t p n
+unfolding words_from word
+words_cut t p zero h = refl
+words_cut t p (suc n) h =
+    let i : p < length t = omega arith in
+    let e : suc p ≡ p + 1 = omega arith in
+    rw (drop-cons t p 0 i, e) (ap (λ l. get_or t p 0 ∷ l) (words_cut t (p + 1) n (omega arith)))
 
--- the first of n words, and the rest
-pub words-next : (t : List ℕ) (p n : ℕ) → (n ≡ 0 → ⊥) → words_from t p n ≡ word t p ∷ words_from t (p + 1) (n - 1)
-unfolding words_from
-words-next t p zero h = absurd (h refl)
-words-next t p (suc n) h = let d : suc n - 1 ≡ n = omega arith in rw d
+-- the next of the words of a list, and the rest
+pub drop-next : (ws : List ℕ) (i : ℕ) → i < length ws → drop i ws ≡ get_or ws i 0 ∷ drop (i + 1) ws
+drop-next ws i h = let e : i + 1 ≡ suc i = omega arith in rw e (drop-cons ws i 0 h)

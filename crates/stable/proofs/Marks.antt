@@ -1,6 +1,6 @@
 -- Marks in a bitmap: what one more does to the set and to the count. Assumes nothing.
 use Prim.Native.Nat.{ℕ, zero, suc, ◌+◌, ◌≤◌, ◌<◌}
-use mathlib.Core.Bool.{Bool, true, false, cond, ◌||◌}
+use mathlib.Core.Bool.{Bool, true, false, not, cond, ◌||◌}
 use mathlib.Core.List.{List, [], ◌∷◌}
 use mathlib.Core.Path.{◌≡◌, refl, ap, ◌∙◌, sym}
 use native.Mathlib.Omega.{arith}
@@ -30,11 +30,18 @@ grown_refl = record { counted = omega arith; same = λ _. refl }
 pub grown_trans : {f g h : List ℕ} {r s : ℕ} → GrownMarks f g r → GrownMarks g h s → GrownMarks f h (r + s)
 grown_trans p q = record { counted = omega (arith, p.counted, q.counted); same = λ e. q.same (omega arith) ∙ p.same (omega arith) }
 
-pub mark_old : {f : List ℕ} {a : ℕ} → get_or f a 0 ≡ 1 → MarkedOne f f a 0
-mark_old {f} {a} e = record { stored = sym (ap (λ v. set f a v) (sym e) ∙ set-get_or f a 0); grown = grown_refl }
-
-pub mark_new : {f : List ℕ} {a : ℕ} → a < length f → (get_or f a 0 ≡ 1 → ⊥) → MarkedOne f (set f a 1) a 1
-mark_new {f} {a} h e = record { stored = refl; grown = record { counted = marked-set f a h e; same = λ k. absurd (let z : ⊥ = omega arith in z) } }
+-- a mark that was there leaves the bitmap as it was, another counts
+pub mark : (f : List ℕ) (a : ℕ) → a < length f → MarkedOne f (set f a 1) a (cond (not (eqb (get_or f a 0) 1)) 1 0)
+mark f a h = go (eqb (get_or f a 0) 1) refl
+  where
+    go : (t : Bool) → eqb (get_or f a 0) 1 ≡ t → MarkedOne f (set f a 1) a (cond (not t) 1 0)
+    go true e =
+        let s : set f a 1 ≡ f = ap (λ v. set f a v) (sym (eqb-true (get_or f a 0) 1 e)) ∙ set-get_or f a 0 in
+        record { stored = refl; grown = rw s grown_refl }
+    go false e = record {
+      stored = refl;
+      grown = record { counted = marked-set f a h (eqb-false (get_or f a 0) 1 e); same = λ k. absurd (let z : ⊥ = omega arith in z) };
+    }
 
 -- one more atom
 pub member_set : (f : List ℕ) (a b : ℕ) → a < length f → is_marked (set f a 1) b ≡ (eqb b a || is_marked f b)

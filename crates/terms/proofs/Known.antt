@@ -1,23 +1,26 @@
 -- What was defined on the way is what the lines before define: a line that is sound defines no number twice.
-use Prim.Native.Nat.{ℕ}
+use Prim.Native.Nat.{ℕ, zero, suc}
 use mathlib.Core.Path.{◌≡◌, refl, sym, ◌∙◌, fun_ext}
 use mathlib.Core.List.{List, [], ◌∷◌, ◌++◌}
 use mathlib.Core.Bool.{Bool, true, false, ◌||◌}
 use mathlib.Core.Option.{Option, some, none}
 use borrow.Author.Tests.{eqb-true}
 use lib.Dec.{eqb}
+use lib.ListN.{get_or, replicate}
 use Rattle.basics.specs.Bools.{pick}
 use Rattle.basics.proofs.Bools.{or_assoc, or_none, or_true, or_neither}
+use Rattle.basics.proofs.Lists.{zeros}
+use Rattle.aspif.specs.inner.Words.{word}
 use Rattle.aspif.specs.Statements.{Theory, defines, collects, states, Line, theory_in}
 use Rattle.terms.specs.Says.{or_else, term_in, term, element_in, element_at}
 use Rattle.terms.specs.Terms.{known, states_in, taken, defined, unsound, stated_by, more}
 use Rattle.terms.specs.Reasons.{Reason, reason_of, answered, differences_from, differences}
-use Rattle.terms.specs.inner.Tables.{changed, known_with, walk, term_on, element_on, look_in, elements_in, entered, env_of, AllZero}
+use Rattle.terms.specs.inner.Tables.{changed, known_with, walk, term_on, element_on, look_in, elements_in, env_of}
 use Rattle.terms.proofs.Six.{sound-line}
 
 -- ---- more lines
 
-or_else_assoc : {A : Type 0} (a b c : Option A) → or_else (or_else a b) c ≡ or_else a (or_else b c)
+pub or_else_assoc : {A : Type 0} (a b c : Option A) → or_else (or_else a b) c ≡ or_else a (or_else b c)
 or_else_assoc (some a) b c = refl
 or_else_assoc none b c = refl
 
@@ -109,10 +112,16 @@ walk_is text before (l ∷ ls) = go (walk_is text (before ++ (l ∷ [])) ls) (re
     go r none q = rw (add-known before l (theory_in l.says) refl (sound-line (known before) (theory_in l.says) q), r)
 
 -- tables of zeros stand for no lines
-pub start_is : (text t terms els seen : List ℕ) (ls : List Line) → AllZero terms → AllZero els → AllZero seen → walk text (env_of t terms els seen) ls ≡ differences text ls
-unfolding differences env_of look_in term_on term elements_in element_on element_at entered taken
-start_is text t terms els seen ls a b c =
-    let x : look_in t terms ≡ term [] = fun_ext (λ u. rw (a.zero_at u)) in
-    let y : elements_in t els ≡ element_at [] = fun_ext (λ v. rw (b.zero_at v)) in
-    let z : entered seen ≡ taken [] = fun_ext (λ i. rw (c.zero_at i)) in
+pub start_is : (text t : List ℕ) (terms els seen : ℕ) (ls : List Line)
+    → walk text (env_of t (replicate {A = ℕ} terms 0) (replicate {A = ℕ} els 0) (replicate {A = Bool} seen false)) ls ≡ differences text ls
+unfolding differences env_of look_in term_on term elements_in element_on element_at taken word
+start_is text t terms els seen ls =
+    let x : look_in t (replicate {A = ℕ} terms 0) ≡ term [] = fun_ext (λ u. rw (zeros terms u)) in
+    let y : elements_in t (replicate {A = ℕ} els 0) ≡ element_at [] = fun_ext (λ v. rw (zeros els v)) in
+    let z : ◌≡◌ {A = ℕ → Bool} (λ a. get_or (replicate {A = Bool} seen false) a false) (taken []) = fun_ext (λ i. none-seen seen i) in
     rw (x, y, z) (walk_is text [] ls)
+  where
+    none-seen : (n i : ℕ) → get_or (replicate {A = Bool} n false) i false ≡ false
+    none-seen zero i = refl
+    none-seen (suc n) zero = refl
+    none-seen (suc n) (suc i) = none-seen n i

@@ -9,6 +9,7 @@ use borrow.Author.Tests.{eqb-true, eqb-false}
 use lib.ListN.{length, get_or, set, take, replicate, length-set, length-replicate}
 use lib.Seq.{take-suc, get_or-set_same, get_or-set_other}
 use lib.Dec.{eqb}
+use Rattle.std.proofs.lemmas.List.{map-append}
 use Rattle.basics.specs.Bools.{pick}
 use Rattle.basics.specs.Lists.{among}
 use Rattle.basics.specs.inner.Bitmaps.{is_marked}
@@ -22,8 +23,10 @@ use Rattle.aspif.specs.inner.Kept.{Stand, LineOn, Ahead}
 use Rattle.aspif.proofs.Coding.{kind_of, head-words}
 use Rattle.aspif.proofs.Walking.{first_word, words-length, ahead-next, lines_next, rule-says}
 use Rattle.aspif.proofs.Decoding.{not-rule}
+use Rattle.diffs.specs.inner.Answer.{zero_difference}
+use Rattle.diffs.specs.declared.Difference.{Difference}
 use Rattle.terms.specs.Says.{head_in, headed}
-use Rattle.terms.specs.inner.Marks.{MarksThose, Remarked}
+use Rattle.terms.specs.inner.Marks.{MarksThose, Remarked, xs_of, ys_of}
 
 -- ---- one mark
 
@@ -50,21 +53,15 @@ pick_false : (p m r : Bool) → pick p false m && not r ≡ m && not (p || r)
 pick_false true m r = sym (and_none m)
 pick_false false m r = refl
 
-pub marks_remarked : {size : ℕ} {x y : List ℕ} {f : ℕ → Bool} {g : Bool → ℕ → Bool} → MarksThose size x f → length y ≡ length x → Remarked x y g → MarksThose size y (λ n. g (f n) n)
-marks_remarked {size} {x} m l c = record { places = l ∙ m.places; each = λ n h. c.each n (omega (arith, m.places)) ∙ rw (m.each n h) }
+-- ---- the numbers of a list, up to the turn i
 
--- ---- the first numbers of a list
-
-pub record Marking (list l₀ l : List ℕ) (i m : ℕ) : Type 0 where
+pub record Marking (list l₀ l : List ℕ) (i : ℕ) : Type 0 where
   pub done : Remarked l₀ l (λ b a. b || among a (take i list))
   pub same : length l ≡ length l₀
-  pub within : i ≤ m
+  pub within : i ≤ length list
 
-pub marking_start : (list l : List ℕ) (m : ℕ) → Marking list l l 0 m
-marking_start list l m = record { done = record { each = λ a h. sym (or_none (is_marked l a)) }; same = refl; within = omega arith }
-
-pub marking_next : {list l₀ l : List ℕ} {i m : ℕ} (l' : List ℕ) → i < m → m ≤ length list → l' ≡ set l (get_or list i 0) 1 → Marking list l₀ l i m → Marking list l₀ l' (i + 1) m
-marking_next {list} {l₀} {l} {i} l' h k e r =
+pub marking_next : {list l₀ l : List ℕ} {i : ℕ} (l' : List ℕ) → i < length list → l' ≡ set l (get_or list i 0) 1 → Marking list l₀ l i → Marking list l₀ l' (i + 1)
+marking_next {list} {l₀} {l} {i} l' h e r =
     record {
       done = record {
         each = λ a w.
@@ -75,36 +72,69 @@ marking_next {list} {l₀} {l} {i} l' h k e r =
       within = omega arith;
     }
 
--- ---- a list of atoms on the tape
+-- ---- the names of differences, up to the turn i
 
-pub record Listing (t : List ℕ) (from n : ℕ) (l₀ l : List ℕ) (q left : ℕ) : Type 0 where
-  pub rest : (a : ℕ) → a < length l₀ → is_marked l a && not (among a (words_from t q left)) ≡ is_marked l₀ a && not (among a (words_from t from n))
+-- what stands as x or y
+abbrev side_in : List Difference → ℕ → Bool
+side_in ds a = among a (xs_of ds) || among a (ys_of ds)
+
+pub record Siding (ds : List Difference) (l₀ l : List ℕ) (i : ℕ) : Type 0 where
+  pub done : Remarked l₀ l (λ b a. b || side_in (take i ds) a)
   pub same : length l ≡ length l₀
-  pub count : q + left ≡ from + n
+  pub within : i ≤ length ds
 
-among_next : (t : List ℕ) (a q left w : ℕ) → 0 < left → w ≡ word t (q + 0) → among a (words_from t q left) ≡ eqb a w || among a (words_from t (q + 1) (left - 1))
+-- one more on each side
+two_more : (b p q x y : Bool) → ((b || (p || q)) || x) || y ≡ b || ((p || x) || (q || y))
+two_more true p q x y = refl
+two_more false true q x y = refl
+two_more false false true true y = refl
+two_more false false true false y = refl
+two_more false false false x y = refl
+
+side_more : (ds : List Difference) (d : Difference) (a : ℕ) → side_in (ds ++ (d ∷ [])) a ≡ (among a (xs_of ds) || eqb a d.x.0) || (among a (ys_of ds) || eqb a d.y.0)
+side_more ds d a =
+    rw (map-append (λ (d : Difference). d.x.0) ds (d ∷ []), map-append (λ (d : Difference). d.y.0) ds (d ∷ []), among-append a (xs_of ds) (d.x.0 ∷ []), among-append a (ys_of ds) (d.y.0 ∷ []), or_none (eqb a d.x.0), or_none (eqb a d.y.0))
+
+pub siding-next : {ds : List Difference} {l₀ l : List ℕ} {i : ℕ} (m l' : List ℕ) (d : Difference) → i < length ds → d ≡ get_or ds i zero_difference
+    → m ≡ set l d.x.0 1 → l' ≡ set m d.y.0 1 → Siding ds l₀ l i → Siding ds l₀ l' (i + 1)
+siding-next {ds} {l₀} {l} {i} m l' d h ed em el r =
+    let k : length m ≡ length l = ap length em ∙ length-set l d.x.0 1 in
+    record {
+      done = record {
+        each = λ a w.
+            rw (el, marked-set m d.y.0 1 a (omega (arith, k, r.same)), pick_true (eqb a d.y.0) (is_marked m a), em, marked-set l d.x.0 1 a (omega (arith, r.same)), pick_true (eqb a d.x.0) (is_marked l a), r.done.each a w, add-one i, take-suc ds i zero_difference h, ← ed, side_more (take i ds) d a)
+            (two_more (is_marked l₀ a) (among a (xs_of (take i ds))) (among a (ys_of (take i ds))) (eqb a d.x.0) (eqb a d.y.0));
+      };
+      same = ap length el ∙ length-set m d.y.0 1 ∙ k ∙ r.same;
+      within = omega arith;
+    }
+
+-- ---- a list of atoms on the tape, up to the turn i
+
+pub record Listing (t : List ℕ) (from n : ℕ) (l₀ l : List ℕ) (i : ℕ) : Type 0 where
+  pub rest : (a : ℕ) → a < length l₀ → is_marked l a && not (among a (words_from t (from + i) (n - i))) ≡ is_marked l₀ a && not (among a (words_from t from n))
+  pub same : length l ≡ length l₀
+
+among_next : (t : List ℕ) (from n i a w : ℕ) → i < n → w ≡ word t (from + i + 0) → among a (words_from t (from + i) (n - i)) ≡ eqb a w || among a (words_from t (from + (i + 1)) (n - (i + 1)))
 unfolding words_from
-among_next t a q zero w h e = absurd (omega arith)
-among_next t a q (suc k) w h e = let d : suc k - 1 ≡ k = omega arith in rw (d, first_word t q w e)
+among_next t from n i a w h e =
+    let d : n - i ≡ suc (n - (i + 1)) = omega arith in
+    let b : from + i + 1 ≡ from + (i + 1) = omega arith in
+    rw (d, first_word t (from + i) w e, b)
 
-pub list-start : (t : List ℕ) (from n : ℕ) (l : List ℕ) → Listing t from n l l from n
-list-start t from n l = record { rest = λ a h. refl; same = refl; count = refl }
-
-pub list-next : {t : List ℕ} {from n : ℕ} {l₀ l : List ℕ} {q left : ℕ} (l' : List ℕ) (w : ℕ) → 0 < left → w ≡ word t (q + 0) → l' ≡ set l w 0
-    → Listing t from n l₀ l q left → Listing t from n l₀ l' (q + 1) (left - 1)
-list-next {t} {from} {n} {l₀} {l} {q} {left} l' w h ew e r =
+pub list-next : {t : List ℕ} {from n : ℕ} {l₀ l : List ℕ} {i : ℕ} (l' : List ℕ) (w : ℕ) → i < n → w ≡ word t (from + i + 0) → l' ≡ set l w 0
+    → Listing t from n l₀ l i → Listing t from n l₀ l' (i + 1)
+list-next {t} {from} {n} {l₀} {l} {i} l' w h ew e r =
     record {
       rest = λ a k.
           rw (e, marked-set l w 0 a (omega (arith, r.same)))
-          (pick_false (eqb a w) (is_marked l a) (among a (words_from t (q + 1) (left - 1))) ∙ rw (among_next t a q left w h ew) at (r.rest a k));
+          (pick_false (eqb a w) (is_marked l a) (among a (words_from t (from + (i + 1)) (n - (i + 1)))) ∙ rw (among_next t from n i a w h ew) at (r.rest a k));
       same = ap length e ∙ length-set l w 0 ∙ r.same;
-      count = omega (arith, r.count);
     }
 
-pub list_end : {t : List ℕ} {from n : ℕ} {l₀ l : List ℕ} {q left : ℕ} → left ≤ 0 → Listing t from n l₀ l q left
-    → Remarked l₀ l (λ b a. b && not (among a (words_from t from n)))
+pub list_end : {t : List ℕ} {from n : ℕ} {l₀ l : List ℕ} {i : ℕ} → n ≤ i → Listing t from n l₀ l i → Remarked l₀ l (λ b a. b && not (among a (words_from t from n)))
 unfolding words_from
-list_end {t} {from} {n} {l₀} {l} {q} {left} h r = let e : left ≡ 0 = omega arith in record { each = λ a k. sym (and_all (is_marked l a)) ∙ (rw e at (r.rest a k)) }
+list_end {t} {from} {n} {l₀} {l} {i} h r = let e : n - i ≡ 0 = omega arith in record { each = λ a k. sym (and_all (is_marked l a)) ∙ (rw e at (r.rest a k)) }
 
 -- ---- the head of a line
 
@@ -142,34 +172,33 @@ line-heads t p k n l l' on ek z en f =
 
 -- ---- the heads of all lines
 
-pub record Heading (t : List ℕ) (n : ℕ) (l₀ l : List ℕ) (p left : ℕ) : Type 0 where
-  pub rest : (a : ℕ) → a < length l₀ → is_marked l a && not (headed (lines_from t p left) a) ≡ is_marked l₀ a && not (headed (lines_of t n) a)
+pub record Heading (t : List ℕ) (n : ℕ) (l₀ l : List ℕ) (p i : ℕ) : Type 0 where
+  pub rest : (a : ℕ) → a < length l₀ → is_marked l a && not (headed (lines_from t p (n - i)) a) ≡ is_marked l₀ a && not (headed (lines_of t n) a)
   pub same : length l ≡ length l₀
-  pub ahead : Ahead t p left
-
-pub heads-start : (t : List ℕ) (n : ℕ) (l : List ℕ) → Ahead t 0 n → Heading t n l l 0 n
-heads-start t n l q = record { rest = λ a h. refl; same = refl; ahead = q }
+  pub ahead : Ahead t p (n - i)
 
 one_by_one : (m p r : Bool) → (m && not p) && not r ≡ m && not (p || r)
 one_by_one true true r = refl
 one_by_one true false r = refl
 one_by_one false p r = refl
 
-pub heads-next : {t : List ℕ} {n : ℕ} {l₀ l : List ℕ} {p left : ℕ} (l' : List ℕ) (next : ℕ) → 0 < left → next ≡ after t p → length l' ≡ length l
-    → Remarked l l' (λ b a. b && not (head_in a (rule_in (says_at t (p + 2))))) → Heading t n l₀ l p left → Heading t n l₀ l' next (left - 1)
+pub heads-next : {t : List ℕ} {n : ℕ} {l₀ l : List ℕ} {p i : ℕ} (l' : List ℕ) (next : ℕ) → i < n → next ≡ after t p → length l' ≡ length l
+    → Remarked l l' (λ b a. b && not (head_in a (rule_in (says_at t (p + 2))))) → Heading t n l₀ l p i → Heading t n l₀ l' next (i + 1)
 unfolding headed
-heads-next {t} {n} {l₀} {l} {p} {left} l' next h e k f r =
+heads-next {t} {n} {l₀} {l} {p} {i} l' next h e k f r =
+    let left : 0 < n - i = omega arith in
+    let d : n - i - 1 ≡ n - (i + 1) = omega arith in
     record {
-      rest = λ a i.
-          rw (e, f.each a (omega (arith, r.same)))
-          (one_by_one (is_marked l a) (head_in a (rule_in (says_at t (p + 2)))) (headed (lines_from t (after t p) (left - 1)) a) ∙ rw (lines_next t p left h) at (r.rest a i));
+      rest = λ a w.
+          rw (e, f.each a (omega (arith, r.same)), ← d)
+          (one_by_one (is_marked l a) (head_in a (rule_in (says_at t (p + 2)))) (headed (lines_from t (after t p) (n - i - 1)) a) ∙ rw (lines_next t p (n - i) left) at (r.rest a w));
       same = k ∙ r.same;
-      ahead = rw e (ahead-next t p left h r.ahead).1;
+      ahead = rw (e, ← d) (ahead-next t p (n - i) left r.ahead).1;
     }
 
-pub heads_end : {t : List ℕ} {n : ℕ} {l₀ l : List ℕ} {p left : ℕ} → left ≤ 0 → Heading t n l₀ l p left → Remarked l₀ l (λ b a. b && not (headed (lines_of t n) a))
+pub heads_end : {t : List ℕ} {n : ℕ} {l₀ l : List ℕ} {p i : ℕ} → n ≤ i → Heading t n l₀ l p i → Remarked l₀ l (λ b a. b && not (headed (lines_of t n) a))
 unfolding headed lines_from
-heads_end {t} {n} {l₀} {l} {p} {left} h r = let e : left ≡ 0 = omega arith in record { each = λ a i. sym (and_all (is_marked l a)) ∙ (rw e at (r.rest a i)) }
+heads_end {t} {n} {l₀} {l} {p} {i} h r = let e : n - i ≡ 0 = omega arith in record { each = λ a w. sym (and_all (is_marked l a)) ∙ (rw e at (r.rest a w)) }
 
 -- a new array marks nothing
 pub marks-zeros : (n : ℕ) → MarksThose n (replicate {A = ℕ} n 0) (λ a. false)

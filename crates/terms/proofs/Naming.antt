@@ -2,7 +2,7 @@
 use Prim.Native.Nat.{ℕ, zero, suc, ◌+◌, ◌≤◌, ◌<◌}
 use mathlib.Core.Path.{◌≡◌, refl, sym, ap, ◌∙◌}
 use mathlib.Core.Logic.{inl, inr, ⊎_elim}
-use mathlib.Core.List.{List, [], ◌∷◌, ◌++◌, map}
+use mathlib.Core.List.{List, [], ◌∷◌, map}
 use mathlib.Core.Bool.{Bool, true, false, ◌&&◌, ◌||◌, not}
 use mathlib.Core.Option.{Option, some, none}
 use native.Mathlib.Omega.{arith}
@@ -10,7 +10,7 @@ use borrow.Author.Tests.{eq-eqb, ne_eqb, eqb-true, ltb-true, ltb-false}
 use lib.ListN.{length, get_or, take, get_or-eq_default}
 use lib.Seq.{take-suc}
 use lib.Dec.{eqb, ltb}
-use lib.IntN.{ℤ}
+use Rattle.std.proofs.lemmas.List.{map-append}
 use Rattle.basics.specs.Lists.{among, All, Ascending}
 use Rattle.basics.specs.inner.Bitmaps.{marks, is_marked}
 use Rattle.basics.proofs.Bools.{or_cases, or_right, or_true, picked}
@@ -20,41 +20,47 @@ use Rattle.faults.specs.inner.Places.{atom_places, term_places}
 use Rattle.aspif.specs.Statements.{Theory, defines, collects, states, Line, theory_in}
 use Rattle.aspif.specs.inner.Words.{word}
 use Rattle.aspif.specs.inner.Kept.{AllInRange}
-use Rattle.diffs.specs.Diff.{Diff}
 use Rattle.aspif.proofs.Decoding.{TheoryIf, theory-small}
+use Rattle.diffs.specs.Diff.{Diff}
+use Rattle.diffs.specs.inner.Answer.{said, diff_at, zero_difference}
+use Rattle.diffs.specs.declared.Difference.{Difference}
 use Rattle.terms.specs.Says.{Name, Names, headed}
 use Rattle.terms.specs.Terms.{Stated, Lists, states_in, taken, external}
 use Rattle.terms.specs.inner.Tables.{held_at, tabulated, States}
-use Rattle.terms.specs.inner.Marks.{MarksThose, atoms_in, xs_in, ys_in, naming}
+use Rattle.terms.specs.inner.Marks.{MarksThose, atoms_in, xs_in, ys_in, naming, xs_of, ys_of}
 use Rattle.terms.proofs.ByKind.{Any}
 use Rattle.terms.proofs.Stating.{says-listed, listed-says, atoms-taken}
 use Rattle.terms.proofs.Bounds.{says-small}
 
 -- ---- the first places of slices
 
-map-append : {A B : Type 0} (f : A → B) (xs ys : List A) → map f (xs ++ ys) ≡ map f xs ++ map f ys
-map-append f [] ys = refl
-map-append {B = B} f (x ∷ xs) ys = ap (λ (l : List B). f x ∷ l) (map-append f xs ys)
-
-tabulated-take : {A : Type 0} (g : A → ℕ) (xs : List ℕ) (f : ℕ → A) → ((i : ℕ) → g (f i) ≡ get_or xs i 0) → (n : ℕ) → n ≤ length xs → map g (tabulated n f) ≡ take n xs
+tabulated-take : {A B : Type 0} (g : A → B) (xs : List B) (z : B) (f : ℕ → A) → ((i : ℕ) → g (f i) ≡ get_or xs i z) → (n : ℕ) → n ≤ length xs → map g (tabulated n f) ≡ take n xs
 unfolding tabulated
-tabulated-take g xs f h zero l = refl
-tabulated-take g xs f h (suc n) l =
-    map-append g (tabulated n f) (f n ∷ []) ∙ rw (tabulated-take g xs f h n (omega arith), h n) (sym (take-suc xs n 0 (omega arith)))
+tabulated-take g xs z f h zero l = refl
+tabulated-take g xs z f h (suc n) l =
+    map-append g (tabulated n f) (f n ∷ []) ∙ rw (tabulated-take g xs z f h n (omega arith), h n) (sym (take-suc xs n z (omega arith)))
 
-module _ (atoms xs ys : List ℕ) (ks : List ℤ) (m : ℕ) where
+-- what a slice of differences says
+saying : (g : Diff → ℕ) (ds : List Difference) (h : Stated → ℕ) (f : ℕ → Stated) → ((i : ℕ) → h (f i) ≡ g (diff_at ds i)) → (n : ℕ) → n ≤ length ds
+    → map h (tabulated n f) ≡ map (λ (d : Difference). g (said d)) (take n ds)
+unfolding tabulated
+saying g ds h f e zero l = refl
+saying g ds h f e (suc n) l =
+    map-append h (tabulated n f) (f n ∷ []) ∙ rw (saying g ds h f e n (omega arith), e n)
+    (sym (ap (map (λ (d : Difference). g (said d))) (take-suc ds n zero_difference (omega arith)) ∙ map-append (λ (d : Difference). g (said d)) (take n ds) (get_or ds n zero_difference ∷ [])))
+
+module _ (atoms : List ℕ) (ds : List Difference) (m : ℕ) where
   -- the atoms of the first m differences
-  held-atoms : m ≤ length atoms → atoms_in (tabulated m (held_at atoms xs ys ks)) ≡ take m atoms
+  held-atoms : m ≤ length atoms → atoms_in (tabulated m (held_at atoms ds)) ≡ take m atoms
   unfolding word
-  held-atoms = tabulated-take (λ (s : Stated). s.atom) atoms (held_at atoms xs ys ks) (λ i. refl) m
+  held-atoms = tabulated-take (λ (s : Stated). s.atom) atoms 0 (held_at atoms ds) (λ i. refl) m
 
-  held_xs : m ≤ length xs → xs_in (tabulated m (held_at atoms xs ys ks)) ≡ take m xs
-  unfolding word
-  held_xs = tabulated-take (λ (s : Stated). s.says.x) xs (held_at atoms xs ys ks) (λ i. refl) m
+  -- and what they say
+  held_xs : m ≤ length ds → xs_in (tabulated m (held_at atoms ds)) ≡ xs_of (take m ds)
+  held_xs = saying (λ d. d.x) ds (λ (s : Stated). s.says.x) (held_at atoms ds) (λ i. refl) m
 
-  held_ys : m ≤ length ys → ys_in (tabulated m (held_at atoms xs ys ks)) ≡ take m ys
-  unfolding word
-  held_ys = tabulated-take (λ (s : Stated). s.says.y) ys (held_at atoms xs ys ks) (λ i. refl) m
+  held_ys : m ≤ length ds → ys_in (tabulated m (held_at atoms ds)) ≡ ys_of (take m ds)
+  held_ys = saying (λ d. d.y) ds (λ (s : Stated). s.says.y) (held_at atoms ds) (λ i. refl) m
 
 -- ---- standing in a list
 
@@ -136,11 +142,11 @@ marked-within (b ∷ x) (suc n) h = omega (arith, marked-within x n h)
 
 -- ---- the bitmaps of the code
 
-module _ (ls : List Line) (atoms xs ys : List ℕ) (ks : List ℤ) (m : ℕ) (h : States ls (tabulated m (held_at atoms xs ys ks))) where
+module _ (ls : List Line) (atoms : List ℕ) (differences : List Difference) (m : ℕ) (h : States ls (tabulated m (held_at atoms differences))) where
   -- what `mark_names` marks are the names, ascending
-  pub names-are : (names : List ℕ) → AllInRange ls → m ≤ length xs → m ≤ length ys
-      → MarksThose term_places names (λ n. among n (take m xs) || among n (take m ys)) → Names ls (marks 0 names)
-  names-are names q lx ly b =
+  pub names-are : (names : List ℕ) → AllInRange ls → m ≤ length differences
+      → MarksThose term_places names (λ n. among n (xs_of (take m differences)) || among n (ys_of (take m differences))) → Names ls (marks 0 names)
+  names-are names q l b =
       record {
         ascending = marks_ascend 0 names;
         all = λ n w. marked-holds names n ∙ b.each n (small n w) ∙ is n ∙ name-naming ls _ h n w;
@@ -149,8 +155,8 @@ module _ (ls : List Line) (atoms xs ys : List ℕ) (ks : List ℤ) (m : ℕ) (h 
             naming-name ls _ h n (sym (is n) ∙ sym (b.each n (rw b.places at (marked-within names n k))) ∙ k));
       }
     where
-      is : (n : ℕ) → among n (take m xs) || among n (take m ys) ≡ naming (tabulated m (held_at atoms xs ys ks)) n
-      is n = rw (held_xs atoms xs ys ks m lx, held_ys atoms xs ys ks m ly)
+      is : (n : ℕ) → among n (xs_of (take m differences)) || among n (ys_of (take m differences)) ≡ naming (tabulated m (held_at atoms differences)) n
+      is n = rw (held_xs atoms differences m l, held_ys atoms differences m l)
 
       small : (n : ℕ) → Name ls n → n < term_places
       small n w =
@@ -163,7 +169,7 @@ module _ (ls : List Line) (atoms xs ys : List ℕ) (ks : List ℤ) (m : ℕ) (h 
   externals-are ext q la b a = go (ltb a atom_places) refl
     where
       is : among a (take m atoms) ≡ taken ls a
-      is = rw (← held-atoms atoms xs ys ks m la) (atoms-taken ls _ h a)
+      is = rw (← held-atoms atoms differences m la) (atoms-taken ls _ h a)
 
       go : (t : Bool) → ltb a atom_places ≡ t → is_marked ext a ≡ external ls a
       go true e = b.each a (ltb-true a atom_places e) ∙ rw is

@@ -1,30 +1,48 @@
 -- Terms, bounds, sides and the difference of a theory atom, by the tables: one law for each way out of the code.
-use Prim.Native.Nat.{ℕ, zero, suc, ◌+◌, ◌-◌, ◌/◌, ◌<◌}
+use Prim.Native.Nat.{ℕ, zero, suc, ◌+◌, ◌-◌, ◌/◌, ◌≤◌, ◌<◌}
 use mathlib.Core.Path.{◌≡◌, refl, sym, ◌∙◌}
 use mathlib.Core.List.{List, [], ◌∷◌, map}
-use mathlib.Core.Bool.{Bool, true, false, ◌&&◌, not}
+use mathlib.Core.Bool.{Bool, true, false, ◌&&◌}
 use mathlib.Core.Option.{Option, some, none}
 use native.Mathlib.Omega.{arith}
 use borrow.Author.Tests.{eq-eqb, ne_eqb, eqb-true}
 use lib.Dec.{eqb}
-use lib.ListN.{length}
+use lib.ListN.{length, get_or}
 use lib.IntN.{ℤ, pos, negsuc, neg_ℤ}
 use mir.Syntax.{w32}
 use mir.Val.{to_z, of_z}
+use Rattle.std.specs.Prelude.{is_some, Some, None}
+use Rattle.std.specs.Option.{SomeIff}
+use Rattle.std.specs.Prelude as code
 use Rattle.basics.specs.Bools.{pick}
 use Rattle.basics.proofs.Bools.{and_none, and_cases}
 use Rattle.aspif.specs.Statements.{Literal, Term, num, str, comp, Element, elem, Guard, unguarded, guard, theory_in}
 use Rattle.aspif.specs.Grammar.{integer_of, literal_of}
 use Rattle.aspif.specs.inner.Words.{number_kind, string_kind, compound_kind, element_kind, guarded_kind, word, words_from, literals_at, says_at}
-use Rattle.aspif.proofs.Walking.{first_word, words-length}
+use Rattle.aspif.proofs.Walking.{word_out, first_word, words-length}
 use Rattle.terms.specs.Says.{diff_word, minus, at_most}
 use Rattle.terms.specs.Terms.{defined, same_bytes, is_string, is_minus, opposite, bound_of, pair_of, pair_in, joined, difference_of}
-use Rattle.terms.specs.inner.Tables.{is_term, minus_of, term_of, element_of, term_on, element_on, look_in, elements_in, difference_in, stated_on}
+use Rattle.terms.specs.inner.Tables.{is_term, minus_of, term_of, element_of, place_of, place_in, term_at, term_on, element_on, look_in, elements_in, difference_in, stated_on}
 use Rattle.terms.proofs.Signs.{back, fits_int, fits-opposite, term-half}
 use Rattle.terms.proofs.ByKind.{by_kind, number-says, string-says, compound_says, element_says, guarded_says}
 
 not_true : {A : Type 0} → false ≡ true → A
 not_true e = let z : ◌≡◌ {A = ℕ} 0 1 = (cc) in absurd (omega arith)
+
+-- ---- the place that an entry stands for
+
+pub place_out : (table : List ℕ) (u : ℕ) → length table ≤ u → None ≡ place_in table u
+place_out table u h = rw (← (word_out table u h))
+
+pub place_is : (table : List ℕ) (u e : ℕ) (o : code.Option ℕ) → e ≡ get_or table u 0 → SomeIff o (1 ≤ e) (e - 1) → o ≡ place_in table u
+unfolding word
+place_is table u e o q h = rw (← q) (go o e h)
+  where
+    go : (o : code.Option ℕ) (e : ℕ) → SomeIff o (1 ≤ e) (e - 1) → o ≡ place_of e
+    go None zero h = refl
+    go None (suc q) h = absurd (h (omega arith))
+    go (Some x) zero h = absurd (omega (arith, h.0))
+    go (Some x) (suc q) h = let d : suc q - 1 ≡ q = omega arith in rw (h.1, d)
 
 -- ---- a compound's t
 
@@ -41,233 +59,222 @@ module _ (look : ℕ → Option Term) (f : ℕ) (b : Bool) (eb : b ≡ is_term (
   unfolding is_minus
   minus-term h = rw (term-half f (sym eb ∙ h))
 
--- ---- what an entry stands for
-
-entry-is : (t : List ℕ) (e : ℕ) → (e ≡ 0 → ⊥) → term_on t e ≡ some (term_of (theory_in (says_at t (e - 1))))
-unfolding term_on
-entry-is t zero z = absurd (z refl)
-entry-is t (suc q) z = let d : suc q - 1 ≡ q = omega arith in rw d
-
-element_is : (t : List ℕ) (e : ℕ) → (e ≡ 0 → ⊥) → element_on t e ≡ some (element_of (theory_in (says_at t (e - 1))))
-unfolding element_on
-element_is t zero z = absurd (z refl)
-element_is t (suc q) z = let d : suc q - 1 ≡ q = omega arith in rw d
-
 -- ---- a compound of `-`
 
-module _ (t : List ℕ) (look : ℕ → Option Term) (count e : ℕ) where
-  pub minus_out : e ≡ 0 → false ≡ minus_of look count (term_on t e)
-  unfolding term_on
-  minus_out z = rw z
+module _ (t : List ℕ) (look : ℕ → Option Term) (count q : ℕ) (k : ℕ) (ek : k ≡ word t (q + 0)) where
+  pub minus-not : (k ≡ compound_kind → ⊥) → false ≡ minus_of look count (term_at t q)
+  unfolding is_minus
+  minus-not o =
+      by_kind t q (λ x. false ≡ minus_of look count (term_of x)) (λ h. refl) (λ h. refl) (λ h. absurd (o (sym (first_word t q k ek) ∙ h))) (λ h. tuple) (λ h. tuple) (λ h. tuple) (λ h. tuple)
+    where
+      tuple : false ≡ eqb 0 count && false
+      tuple = sym (and_none (eqb 0 count))
 
-  module _ (nz : e ≡ 0 → ⊥) (k : ℕ) (ek : k ≡ word t (e - 1 + 0)) where
-    pub minus-not : (k ≡ compound_kind → ⊥) → false ≡ minus_of look count (term_on t e)
-    unfolding is_minus
-    minus-not o =
-        rw (entry-is t e nz)
-        (by_kind t (e - 1) (λ x. false ≡ minus_of look count (some (term_of x))) (λ h. refl) (λ h. refl) (λ h. absurd (o (sym (first_word t (e - 1) k ek) ∙ h))) (λ h. tuple) (λ h. tuple) (λ h. tuple) (λ h. tuple))
-      where
-        tuple : false ≡ eqb 0 count && false
-        tuple = sym (and_none (eqb 0 count))
+  module _ (o : k ≡ compound_kind) (n : ℕ) (en : n ≡ word t (q + 3)) where
+    minus_step : eqb n count && is_minus look (integer_of (word t (q + 2))) ≡ minus_of look count (term_at t q)
+    minus_step = rw (compound_says t q (first_word t q k ek ∙ o), words-length t (q + 4) (word t (q + 3)), en)
 
-    module _ (o : k ≡ compound_kind) (n : ℕ) (en : n ≡ word t (e - 1 + 3)) where
-      minus_step : eqb n count && is_minus look (integer_of (word t (e - 1 + 2))) ≡ minus_of look count (term_on t e)
-      minus_step = rw (entry-is t e nz, compound_says t (e - 1) (first_word t (e - 1) k ek ∙ o), words-length t (e - 1 + 4) (word t (e - 1 + 3)), en)
+    pub minus_many : (n ≡ count → ⊥) → false ≡ minus_of look count (term_at t q)
+    minus_many h = rw (ne_eqb n count h) at minus_step
 
-      pub minus_many : (n ≡ count → ⊥) → false ≡ minus_of look count (term_on t e)
-      minus_many h = rw (ne_eqb n count h) at minus_step
-
-      pub minus_is : (f : ℕ) → n ≡ count → f ≡ word t (e - 1 + 2) → is_minus look (integer_of f) ≡ minus_of look count (term_on t e)
-      minus_is f h ef = rw ef (rw (eq-eqb n count h) at minus_step)
-
-pub minus_there : (t : List ℕ) (look : ℕ → Option Term) (count e : ℕ) → minus_of look count (term_on t e) ≡ true → 0 < e
-unfolding term_on
-minus_there t look count zero h = not_true h
-minus_there t look count (suc q) h = omega arith
+    pub minus_is : (f : ℕ) → n ≡ count → f ≡ word t (q + 2) → is_minus look (integer_of f) ≡ minus_of look count (term_at t q)
+    minus_is f h ef = rw ef (rw (eq-eqb n count h) at minus_step)
 
 -- what stands where there is one
-record Compounded (t : List ℕ) (look : ℕ → Option Term) (count e : ℕ) : Type 0 where
+record Compounded (t : List ℕ) (look : ℕ → Option Term) (count q : ℕ) : Type 0 where
   functor : ℤ
   sign : is_minus look functor ≡ true
-  is : term_on t e ≡ some (comp functor (words_from t (e - 1 + 4) count))
+  is : term_at t q ≡ comp functor (words_from t (q + 4) count)
 
-compounded : (t : List ℕ) (look : ℕ → Option Term) (count e : ℕ) → minus_of look count (term_on t e) ≡ true → Compounded t look count e
+compounded : (t : List ℕ) (look : ℕ → Option Term) (count q : ℕ) → minus_of look count (term_at t q) ≡ true → Compounded t look count q
 unfolding is_minus
-compounded t look count e h =
-    let l : 0 < e = minus_there t look count e h in
-    let i = entry-is t e (λ z. omega arith) in
-    by_kind t (e - 1) (λ x. term_on t e ≡ some (term_of x) → minus_of look count (some (term_of x)) ≡ true → Compounded t look count e)
+compounded t look count q h =
+    by_kind t q (λ x. term_at t q ≡ term_of x → minus_of look count (term_of x) ≡ true → Compounded t look count q)
     (λ _ j w. not_true w)
     (λ _ j w. not_true w)
     (λ _ j w.
-    let c = and_cases (eqb (length (words_from t (e - 1 + 4) (word t (e - 1 + 3)))) count) (is_minus look (integer_of (word t (e - 1 + 2)))) w in
-    let n : word t (e - 1 + 3) ≡ count = sym (words-length t (e - 1 + 4) (word t (e - 1 + 3))) ∙ eqb-true (length (words_from t (e - 1 + 4) (word t (e - 1 + 3)))) count c.0 in
-    record { functor = integer_of (word t (e - 1 + 2)); sign = c.1; is = j ∙ rw n })
+    let c = and_cases (eqb (length (words_from t (q + 4) (word t (q + 3)))) count) (is_minus look (integer_of (word t (q + 2)))) w in
+    let n : word t (q + 3) ≡ count = sym (words-length t (q + 4) (word t (q + 3))) ∙ eqb-true (length (words_from t (q + 4) (word t (q + 3)))) count c.0 in
+    record { functor = integer_of (word t (q + 2)); sign = c.1; is = j ∙ rw n })
     (λ _ j w. tuple w)
     (λ _ j w. tuple w)
     (λ _ j w. tuple w)
     (λ _ j w. tuple w)
-    i
-    (rw i at h)
+    refl
+    h
   where
-    tuple : eqb 0 count && false ≡ true → Compounded t look count e
+    tuple : eqb 0 count && false ≡ true → Compounded t look count q
     tuple w = not_true (and_cases (eqb 0 count) false w).1
 
--- ---- a term by its entry
+-- ---- a term by the place of its entry
 
-module _ (t terms : List ℕ) (u e : ℕ) (ee : e ≡ word terms u) where
-  term_by : look_in t terms u ≡ term_on t e
+module _ (t terms : List ℕ) (u : ℕ) (o : code.Option ℕ) (eo : o ≡ place_in terms u) where
+  term_by : look_in t terms u ≡ term_on t o
   unfolding look_in
-  term_by = rw ee
+  term_by = rw eo
 
-  pub known_if : not (eqb e 0) ≡ defined (look_in t terms u)
+  pub known_if : is_some o ≡ defined (look_in t terms u)
   unfolding term_on
-  known_if = rw term_by (go e)
+  known_if = rw term_by (go o)
     where
-      go : (e : ℕ) → not (eqb e 0) ≡ defined (term_on t e)
-      go zero = refl
-      go (suc q) = rw (ne_eqb (suc q) 0 (λ z. omega arith))
+      go : (o : code.Option ℕ) → is_some o ≡ defined (term_on t o)
+      go None = refl
+      go (Some q) = refl
 
-  pub string_out : (l : List ℕ) → e ≡ 0 → false ≡ is_string l (look_in t terms u)
-  unfolding is_string term_on
-  string_out l z = rw (term_by, z)
+  module _ (z : o ≡ None) where
+    term_out : look_in t terms u ≡ none
+    unfolding term_on
+    term_out = term_by ∙ rw z
 
-  pub against_out : e ≡ 0 → none ≡ opposite (look_in t terms u)
-  unfolding opposite term_on
-  against_out z = rw (term_by, z)
-
-  pub bound_out : e ≡ 0 → none ≡ bound_of (look_in t terms) (look_in t terms u)
-  unfolding bound_of term_on
-  bound_out z = rw (term_by, z)
-
-  module _ (nz : e ≡ 0 → ⊥) (k : ℕ) (ek : k ≡ word t (e - 1 + 0)) where
-    kind : word t (e - 1) ≡ k
-    kind = first_word t (e - 1) k ek
-
-    term_is : look_in t terms u ≡ some (term_of (theory_in (says_at t (e - 1))))
-    term_is = term_by ∙ entry-is t e nz
-
-    pub string-not : (l : List ℕ) → (k ≡ string_kind → ⊥) → false ≡ is_string l (look_in t terms u)
+    pub string_out : (l : List ℕ) → false ≡ is_string l (look_in t terms u)
     unfolding is_string
-    string-not l o =
-        rw term_is
-        (by_kind t (e - 1) (λ x. false ≡ is_string l (some (term_of x))) (λ h. refl) (λ h. absurd (o (sym kind ∙ h))) (λ h. refl) (λ h. refl) (λ h. refl) (λ h. refl) (λ h. refl))
+    string_out l = rw term_out
 
-    pub string-is : (l : List ℕ) (n : ℕ) → k ≡ string_kind → n ≡ word t (e - 1 + 2) → same_bytes (words_from t (e - 1 + 3) n) l ≡ is_string l (look_in t terms u)
-    unfolding is_string
-    string-is l n o en = rw (term_is, string-says t (e - 1) (kind ∙ o), en)
-
-    pub against-not : (k ≡ number_kind → ⊥) → none ≡ opposite (look_in t terms u)
+    pub against_out : none ≡ opposite (look_in t terms u)
     unfolding opposite
-    against-not o =
-        rw term_is
-        (by_kind t (e - 1) (λ x. none ≡ opposite (some (term_of x))) (λ h. absurd (o (sym kind ∙ h))) (λ h. refl) (λ h. refl) (λ h. refl) (λ h. refl) (λ h. refl) (λ h. refl))
+    against_out = rw term_out
 
-    module _ (w : ℕ) (z : ℤ) (o : k ≡ number_kind) (ew : w ≡ word t (e - 1 + 2)) (h : w < 4294967296) where
-      pub against-is : z ≡ neg_ℤ (integer_of w) → some (to_z w32 (of_z w32 z)) ≡ opposite (look_in t terms u)
-      unfolding opposite
-      against-is ez = rw (ez, back (fits-opposite w h), term_is, number-says t (e - 1) (kind ∙ o), ew)
-
-      pub bound-number : z ≡ integer_of w → some (to_z w32 (of_z w32 z)) ≡ bound_of (look_in t terms) (look_in t terms u)
-      unfolding bound_of
-      bound-number ez = rw (ez, back (fits_int w h), term_is, number-says t (e - 1) (kind ∙ o), ew)
-
-    pub bound-not : (b : Bool) → (k ≡ number_kind → ⊥) → b ≡ minus_of (look_in t terms) 1 (term_on t e) → b ≡ false → none ≡ bound_of (look_in t terms) (look_in t terms u)
+    pub bound_out : none ≡ bound_of (look_in t terms) (look_in t terms u)
     unfolding bound_of
-    bound-not b o eb h =
-        rw term_is
-        (by_kind t (e - 1) (λ x. minus_of (look_in t terms) 1 (some (term_of x)) ≡ false → none ≡ bound_of (look_in t terms) (some (term_of x))) (λ q. absurd (o (sym kind ∙ q))) (λ _ w. refl) (λ _ w. one (integer_of (word t (e - 1 + 2))) (words_from t (e - 1 + 4) (word t (e - 1 + 3))) w) (λ _ w. refl) (λ _ w. refl) (λ _ w. refl) (λ _ w. refl)
-        (rw (entry-is t e nz) at (sym eb ∙ h)))
+    bound_out = rw term_out
+
+    pub pair_out : none ≡ pair_of (look_in t terms) (look_in t terms u)
+    unfolding pair_of
+    pair_out = rw term_out
+
+  module _ (q : ℕ) (there : o ≡ Some q) where
+    term_is : look_in t terms u ≡ some (term_at t q)
+    unfolding term_on
+    term_is = term_by ∙ rw there
+
+    module _ (k : ℕ) (ek : k ≡ word t (q + 0)) where
+      kind : word t q ≡ k
+      kind = first_word t q k ek
+
+      pub string-not : (l : List ℕ) → (k ≡ string_kind → ⊥) → false ≡ is_string l (look_in t terms u)
+      unfolding is_string
+      string-not l z =
+          rw term_is
+          (by_kind t q (λ x. false ≡ is_string l (some (term_of x))) (λ h. refl) (λ h. absurd (z (sym kind ∙ h))) (λ h. refl) (λ h. refl) (λ h. refl) (λ h. refl) (λ h. refl))
+
+      pub string-is : (l : List ℕ) (n : ℕ) → k ≡ string_kind → n ≡ word t (q + 2) → same_bytes (words_from t (q + 3) n) l ≡ is_string l (look_in t terms u)
+      unfolding is_string
+      string-is l n z en = rw (term_is, string-says t q (kind ∙ z), en)
+
+      pub against-not : (k ≡ number_kind → ⊥) → none ≡ opposite (look_in t terms u)
+      unfolding opposite
+      against-not z =
+          rw term_is
+          (by_kind t q (λ x. none ≡ opposite (some (term_of x))) (λ h. absurd (z (sym kind ∙ h))) (λ h. refl) (λ h. refl) (λ h. refl) (λ h. refl) (λ h. refl) (λ h. refl))
+
+      module _ (w : ℕ) (z : ℤ) (nk : k ≡ number_kind) (ew : w ≡ word t (q + 2)) (h : w < 4294967296) where
+        pub against-is : z ≡ neg_ℤ (integer_of w) → some (to_z w32 (of_z w32 z)) ≡ opposite (look_in t terms u)
+        unfolding opposite
+        against-is ez = rw (ez, back (fits-opposite w h), term_is, number-says t q (kind ∙ nk), ew)
+
+        pub bound-number : z ≡ integer_of w → some (to_z w32 (of_z w32 z)) ≡ bound_of (look_in t terms) (look_in t terms u)
+        unfolding bound_of
+        bound-number ez = rw (ez, back (fits_int w h), term_is, number-says t q (kind ∙ nk), ew)
+
+      pub bound-not : (b : Bool) → (k ≡ number_kind → ⊥) → b ≡ minus_of (look_in t terms) 1 (term_at t q) → b ≡ false → none ≡ bound_of (look_in t terms) (look_in t terms u)
+      unfolding bound_of
+      bound-not b z eb h =
+          rw term_is
+          (by_kind t q (λ x. minus_of (look_in t terms) 1 (term_of x) ≡ false → none ≡ bound_of (look_in t terms) (some (term_of x))) (λ w. absurd (z (sym kind ∙ w))) (λ _ w. refl) (λ _ w. one (integer_of (word t (q + 2))) (words_from t (q + 4) (word t (q + 3))) w) (λ _ w. refl) (λ _ w. refl) (λ _ w. refl) (λ _ w. refl)
+          (sym eb ∙ h))
+        where
+          one : (f : ℤ) (us : List ℕ) → eqb (length us) 1 && is_minus (look_in t terms) f ≡ false → none ≡ bound_of (look_in t terms) (some (comp f us))
+          one f [] w = refl
+          one f (n ∷ []) w = rw w
+          one f (n ∷ m ∷ us) w = refl
+
+    pub bound-minus : (b : Bool) (n : ℕ) → b ≡ minus_of (look_in t terms) 1 (term_at t q) → b ≡ true → n ≡ word t (q + 4)
+        → opposite (look_in t terms n) ≡ bound_of (look_in t terms) (look_in t terms u)
+    unfolding bound_of words_from
+    bound-minus b n eb h en = let c = compounded t (look_in t terms) 1 q (sym eb ∙ h) in rw (term_is, c.is, c.sign, en)
+
+    -- ---- two sides
+
+    pub pair-not : (b : Bool) → b ≡ minus_of (look_in t terms) 2 (term_at t q) → b ≡ false → none ≡ pair_of (look_in t terms) (look_in t terms u)
+    unfolding pair_of
+    pair-not b eb h = rw term_is (go (term_at t q) (sym eb ∙ h))
       where
-        one : (f : ℤ) (us : List ℕ) → eqb (length us) 1 && is_minus (look_in t terms) f ≡ false → none ≡ bound_of (look_in t terms) (some (comp f us))
-        one f [] w = refl
-        one f (n ∷ []) w = rw w
-        one f (n ∷ m ∷ us) w = refl
+        go : (x : Term) → minus_of (look_in t terms) 2 x ≡ false → none ≡ pair_of (look_in t terms) (some x)
+        go (num k) w = refl
+        go (str s) w = refl
+        go (comp f []) w = refl
+        go (comp f (x ∷ [])) w = refl
+        go (comp f (x ∷ y ∷ [])) w = rw w
+        go (comp f (x ∷ y ∷ z ∷ us)) w = refl
 
-  pub bound-minus : (b : Bool) (n : ℕ) → b ≡ minus_of (look_in t terms) 1 (term_on t e) → b ≡ true → n ≡ word t (e - 1 + 4)
-      → opposite (look_in t terms n) ≡ bound_of (look_in t terms) (look_in t terms u)
-  unfolding bound_of words_from
-  bound-minus b n eb h en = let c = compounded t (look_in t terms) 1 e (sym eb ∙ h) in rw (term_by, c.is, c.sign, en)
-
-  -- ---- two sides
-
-  pub pair-not : (b : Bool) → b ≡ minus_of (look_in t terms) 2 (term_on t e) → b ≡ false → none ≡ pair_of (look_in t terms) (look_in t terms u)
-  unfolding pair_of
-  pair-not b eb h = rw term_by (go (term_on t e) (sym eb ∙ h))
-    where
-      go : (x : Option Term) → minus_of (look_in t terms) 2 x ≡ false → none ≡ pair_of (look_in t terms) x
-      go none w = refl
-      go (some (num k)) w = refl
-      go (some (str s)) w = refl
-      go (some (comp f [])) w = refl
-      go (some (comp f (x ∷ []))) w = refl
-      go (some (comp f (x ∷ y ∷ []))) w = rw w
-      go (some (comp f (x ∷ y ∷ z ∷ us))) w = refl
-
-  pub pair_is : (b : Bool) (x y : ℕ) → b ≡ minus_of (look_in t terms) 2 (term_on t e) → b ≡ true → x ≡ word t (e - 1 + 4) → y ≡ word t (e - 1 + 5)
-      → some (record { x = x; y = y }) ≡ pair_of (look_in t terms) (look_in t terms u)
-  unfolding pair_of words_from
-  pair_is b x y eb h ex ey =
-      let c = compounded t (look_in t terms) 2 e (sym eb ∙ h) in
-      let i : e - 1 + 4 + 1 ≡ e - 1 + 5 = omega arith in
-      rw (term_by, c.is, c.sign, i, ex, ey)
+    pub pair_is : (b : Bool) (x y : ℕ) → b ≡ minus_of (look_in t terms) 2 (term_at t q) → b ≡ true → x ≡ word t (q + 4) → y ≡ word t (q + 5)
+        → some (record { x = x; y = y }) ≡ pair_of (look_in t terms) (look_in t terms u)
+    unfolding pair_of words_from
+    pair_is b x y eb h ex ey =
+        let c = compounded t (look_in t terms) 2 q (sym eb ∙ h) in
+        let i : q + 4 + 1 ≡ q + 5 = omega arith in
+        rw (term_is, c.is, c.sign, i, ex, ey)
 
 -- ---- two sides in an element
 
-module _ (t els : List ℕ) (v e : ℕ) (ee : e ≡ word els v) where
-  element_by : elements_in t els v ≡ element_on t e
+module _ (t els : List ℕ) (v : ℕ) (o : code.Option ℕ) (eo : o ≡ place_in els v) where
+  element_by : elements_in t els v ≡ element_on t o
   unfolding elements_in
-  element_by = rw ee
+  element_by = rw eo
 
-  pub collected_if : not (eqb e 0) ≡ defined (elements_in t els v)
+  pub collected_if : is_some o ≡ defined (elements_in t els v)
   unfolding element_on
-  collected_if = rw element_by (go e)
+  collected_if = rw element_by (go o)
     where
-      go : (e : ℕ) → not (eqb e 0) ≡ defined (element_on t e)
-      go zero = refl
-      go (suc q) = rw (ne_eqb (suc q) 0 (λ z. omega arith))
+      go : (o : code.Option ℕ) → is_some o ≡ defined (element_on t o)
+      go None = refl
+      go (Some q) = refl
 
-module _ (t els : List ℕ) (v e : ℕ) (ee : e ≡ word els v) (look : ℕ → Option Term) where
-  pub in_none : e ≡ 0 → none ≡ pair_in look (elements_in t els v)
-  unfolding pair_in element_on
-  in_none z = rw (element_by t els v e ee, z)
+  module _ (look : ℕ → Option Term) where
+    pub in_none : o ≡ None → none ≡ pair_in look (elements_in t els v)
+    unfolding pair_in element_on
+    in_none z = rw (element_by, z)
 
-  module _ (nz : e ≡ 0 → ⊥) (k : ℕ) (ek : k ≡ word t (e - 1 + 0)) where
-    pub in_not : (k ≡ element_kind → ⊥) → none ≡ pair_in look (elements_in t els v)
-    unfolding pair_in
-    in_not o =
-        rw (element_by t els v e ee, element_is t e nz)
-        (by_kind t (e - 1) (λ x. none ≡ pair_in look (some (element_of x))) (λ h. refl) (λ h. refl) (λ h. refl) (λ h. absurd (o (sym (first_word t (e - 1) k ek) ∙ h))) (λ h. refl) (λ h. refl) (λ h. refl))
+    module _ (q : ℕ) (there : o ≡ Some q) (k : ℕ) (ek : k ≡ word t (q + 0)) where
+      element_is : elements_in t els v ≡ some (element_of (theory_in (says_at t q)))
+      unfolding element_on
+      element_is = element_by ∙ rw there
 
-    module _ (o : k ≡ element_kind) (n : ℕ) (en : n ≡ word t (e - 1 + 2)) where
-      collected : elements_in t els v ≡ some (elem (words_from t (e - 1 + 3) n) (literals_at t (e - 1 + 3 + n)))
-      collected = element_by t els v e ee ∙ element_is t e nz ∙ rw (element_says t (e - 1) (first_word t (e - 1) k ek ∙ o), en)
+      pub in_not : (k ≡ element_kind → ⊥) → none ≡ pair_in look (elements_in t els v)
+      unfolding pair_in
+      in_not z =
+          rw element_is
+          (by_kind t q (λ x. none ≡ pair_in look (some (element_of x))) (λ h. refl) (λ h. refl) (λ h. refl) (λ h. absurd (z (sym (first_word t q k ek) ∙ h))) (λ h. refl) (λ h. refl) (λ h. refl))
 
-      pub in_many : (n ≡ 1 → ⊥) → none ≡ pair_in look (elements_in t els v)
-      unfolding pair_in words_from
-      in_many h = rw collected (go n (literals_at t (e - 1 + 3 + n)) h)
-        where
-          go : (n : ℕ) (c : List Literal) → (n ≡ 1 → ⊥) → none ≡ pair_in look (some (elem (words_from t (e - 1 + 3) n) c))
-          go zero c h = refl
-          go (suc zero) c h = absurd (h refl)
-          go (suc (suc n)) c h = refl
+      module _ (ok : k ≡ element_kind) (n : ℕ) (en : n ≡ word t (q + 2)) where
+        collected : elements_in t els v ≡ some (elem (words_from t (q + 3) n) (literals_at t (q + 3 + n)))
+        collected = element_is ∙ rw (element_says t q (first_word t q k ek ∙ ok), en)
 
-      module _ (one : n ≡ 1) (m : ℕ) (em : m ≡ word t (e - 1 + 4)) where
-        collected_one : elements_in t els v ≡ some (elem (word t (e - 1 + 3) ∷ []) (map literal_of (words_from t (e - 1 + 4 + 1) m)))
-        unfolding words_from
-        collected_one = let i : e - 1 + 3 + 1 ≡ e - 1 + 4 = omega arith in collected ∙ rw (one, i, em)
-
-        pub in_condition : (m ≡ 0 → ⊥) → none ≡ pair_in look (elements_in t els v)
+        pub in_many : (n ≡ 1 → ⊥) → none ≡ pair_in look (elements_in t els v)
         unfolding pair_in words_from
-        in_condition h = rw collected_one (go m h)
+        in_many h = rw collected (go n (literals_at t (q + 3 + n)) h)
           where
-            go : (m : ℕ) → (m ≡ 0 → ⊥) → none ≡ pair_in look (some (elem (word t (e - 1 + 3) ∷ []) (map literal_of (words_from t (e - 1 + 4 + 1) m))))
-            go zero h = absurd (h refl)
-            go (suc m) h = refl
+            go : (n : ℕ) (c : List Literal) → (n ≡ 1 → ⊥) → none ≡ pair_in look (some (elem (words_from t (q + 3) n) c))
+            go zero c h = refl
+            go (suc zero) c h = absurd (h refl)
+            go (suc (suc n)) c h = refl
 
-        pub in_is : (w : ℕ) → m ≡ 0 → w ≡ word t (e - 1 + 3) → pair_of look (look w) ≡ pair_in look (elements_in t els v)
-        unfolding pair_in words_from
-        in_is w h ew = rw (collected_one, h, ew)
+        module _ (one : n ≡ 1) (m : ℕ) (em : m ≡ word t (q + 4)) where
+          collected_one : elements_in t els v ≡ some (elem (word t (q + 3) ∷ []) (map literal_of (words_from t (q + 4 + 1) m)))
+          unfolding words_from
+          collected_one = let i : q + 3 + 1 ≡ q + 4 = omega arith in collected ∙ rw (one, i, em)
+
+          pub in_condition : (m ≡ 0 → ⊥) → none ≡ pair_in look (elements_in t els v)
+          unfolding pair_in words_from
+          in_condition h = rw collected_one (go m h)
+            where
+              go : (m : ℕ) → (m ≡ 0 → ⊥) → none ≡ pair_in look (some (elem (word t (q + 3) ∷ []) (map literal_of (words_from t (q + 4 + 1) m))))
+              go zero h = absurd (h refl)
+              go (suc m) h = refl
+
+          pub in_is : (w : ℕ) → m ≡ 0 → w ≡ word t (q + 3) → pair_of look (look w) ≡ pair_in look (elements_in t els v)
+          unfolding pair_in words_from
+          in_is w h ew = rw (collected_one, h, ew)
 
 -- ---- a difference
 

@@ -1,30 +1,27 @@
 // One line in its turn: refused where something is wrong with it, else entered.
-ghost use Rattle.std.specs.Prelude.{◌≡◌, List, ℕ, ◌+◌, ◌≤◌, length};
-ghost use Rattle.faults.specs.Answer.{refused};
-ghost use Rattle.faults.specs.Values.{number};
+ghost use Rattle.std.specs.Prelude.{◌≡◌, List, Bool, ℕ, ◌≤◌, length};
 ghost use Rattle.faults.specs.Limits.{longest_text};
-ghost use Rattle.faults.specs.inner.Places.{term_places, element_places, atom_places};
 ghost use Rattle.fields.specs.Fields.{field_place};
 ghost use Rattle.aspif.specs.inner.Words.{word};
 ghost use Rattle.aspif.specs.inner.Kept.{LineOn};
 ghost use Rattle.terms.specs.inner.Tables.{role_of};
-ghost use Rattle.terms.specs.inner.Values.{as_turn, Tables, Turned};
+ghost use Rattle.terms.specs.inner.Values.{LineFor, Takes};
 ghost use Rattle.terms.specs.declared.lines.Role.TheVariants as role;
 
-use crate::difference::{Said, difference};
-use crate::tables::{element_entry, enter_atom, is_entered, put_element, put_term, term_entry};
-use crate::uses::{Use, atom_use, element_use, term_use};
+use crate::tables::{Known, enter, entry};
+use crate::uses::{atom_use, element_use, term_use};
 use aspif::kinds::{ATOM, COMPOUND, ELEMENT, GUARDED, NUMBER, STRING};
 use aspif::walk::{atom_at, element_at, term_at, word_at};
 use aspif::words::{OF, PLACE, SAYS};
-use faults::{AtomNo, Kind, Refusal, TermNo};
+use diffs::Difference;
+use faults::{ATOM_PLACES, AtomNo, ELEMENT_PLACES, Kind, Refusal, TERM_PLACES};
 use fields::field_place;
 
 // The field whose place is that of the line.
 const FIRST_FIELD: usize = 0;
 
 // What a line is for.
-#[derive(Clone, Copy)]
+#[derive(Clone, Copy, Debug, PartialEq, Eq)]
 pub enum Role {
     Term,
     Element,
@@ -32,135 +29,122 @@ pub enum Role {
     Other,
 }
 
-// What a line does in its turn: it adds no difference, or the one that it states, or it is refused.
+// A line of the text, which stands on the tape from p on.
 #[derive(Clone, Copy)]
-pub enum Turn {
-    Goes,
-    States(AtomNo, TermNo, TermNo, i32),
-    Refused(Refusal),
+pub struct LineAt<'a> {
+    pub text: &'a [u8],
+    pub tape: &'a [u32],
+    pub p: usize,
 }
 
+// What a line does in its turn: it adds no difference, or the one of an atom that it states, or it is refused.
+pub type Turn = Result<Option<(AtomNo, Difference)>, Refusal>;
+
 // The role of the lines of a kind.
+#[tactic(auto, unfolding(crate::specs::inner::Tables::role_of))]
 fn role_of(kind: u32) -> Role
     ensures { result ≡ role_of kind }
 {
-    if kind == NUMBER {
-        return Role::Term;
+    match kind {
+        NUMBER | STRING | COMPOUND => Role::Term,
+        ELEMENT => Role::Element,
+        ATOM | GUARDED => Role::Atom,
+        _ => Role::Other,
     }
-    if kind == STRING {
-        return Role::Term;
-    }
-    if kind == COMPOUND {
-        return Role::Term;
-    }
-    if kind == ELEMENT {
-        return Role::Element;
-    }
-    if kind == ATOM {
-        return Role::Atom;
-    }
-    if kind == GUARDED {
-        return Role::Atom;
-    }
-    Role::Other
 }
 
-// The refusal of the line at p, placed at one of its fields.
-fn refuse(text: &[u8], tape: &[u32], p: usize, kind: Kind, field: usize) -> Turn
-    ensures { as_turn result ≡ refused (number kind) (field_place text.now field (word tape.now p)) }
-{
-    let line = word_at(tape, p, PLACE);
-    let place = field_place(text, field, line as usize);
-    Turn::Refused(Refusal { kind, place })
-}
+impl LineAt<'_> {
+    // The refusal of the line, placed at one of its fields.
+    fn refusal(&self, kind: Kind, field: usize) -> Refusal
+        ensures { result ≡ record { kind = kind; place = field_place self.now.text.now field (word self.now.tape.now self.now.p) } }
+    {
+        let line = word_at(self.tape, self.p, PLACE);
+        let place = field_place(self.text, field, line as usize);
+        kind.at(place)
+    }
 
-// Takes the line at p, which defines a term.
-fn take_term(text: &[u8], tape: &[u32], p: usize, terms: &mut [u32]) -> Turn
-    requires { LineOn tape.now p × (role_of (word tape.now (p + 2)) ≡ role.Term) × (length terms.old ≡ term_places) × (length tape.now ≤ longest_text) }
-    ensures { (els seen : List ℕ) → Turned text.now tape.now p terms.old els seen result terms.new els seen }
-{
-    let q = p + SAYS;
-    let u = term_at(tape, q, OF);
-    let defined = term_entry(terms, u);
-    if defined != 0 {
-        return refuse(text, tape, p, Kind::Twice, FIRST_FIELD);
+    // Takes the line, which defines a term.
+    fn take_term(&self, terms: &mut [u32; TERM_PLACES]) -> Turn
+        requires { LineFor role.Term self.now }
+        ensures { (els : List ℕ) (seen : List Bool) → Takes self.now terms.old els seen result terms.new els seen }
+    {
+        let q = self.p + SAYS;
+        let u = term_at(self.tape, q, OF);
+        let defined = entry(terms, u.0);
+        if defined.is_some() {
+            return Err(self.refusal(Kind::Twice, FIRST_FIELD));
+        }
+        let unknown = term_use(self.tape, q, terms);
+        if let Some(field) = unknown {
+            return Err(self.refusal(Kind::Unknown, field));
+        }
+        enter(terms, u.0, q);
+        Ok(None)
     }
-    let unknown = term_use(tape, q, terms);
-    if let Use::At(field) = unknown {
-        return refuse(text, tape, p, Kind::Unknown, field);
-    }
-    let mark = (q + 1) as u32;
-    put_term(terms, u, mark);
-    Turn::Goes
-}
 
-// Takes the line at p, which collects an element.
-fn take_element(text: &[u8], tape: &[u32], p: usize, terms: &[u32], elements: &mut [u32]) -> Turn
-    requires { LineOn tape.now p × (role_of (word tape.now (p + 2)) ≡ role.Element) × (length elements.old ≡ element_places) × (length tape.now ≤ longest_text) }
-    ensures { (seen : List ℕ) → Turned text.now tape.now p terms.now elements.old seen result terms.now elements.new seen }
-{
-    let q = p + SAYS;
-    let v = element_at(tape, q, OF);
-    let collected = element_entry(elements, v);
-    if collected != 0 {
-        return refuse(text, tape, p, Kind::Twice, FIRST_FIELD);
+    // Takes the line, which collects an element.
+    fn take_element(&self, terms: &[u32], elements: &mut [u32; ELEMENT_PLACES]) -> Turn
+        requires { LineFor role.Element self.now }
+        ensures { (seen : List Bool) → Takes self.now terms.now elements.old seen result terms.now elements.new seen }
+    {
+        let q = self.p + SAYS;
+        let v = element_at(self.tape, q, OF);
+        let collected = entry(elements, v.0);
+        if collected.is_some() {
+            return Err(self.refusal(Kind::Twice, FIRST_FIELD));
+        }
+        let unknown = element_use(self.tape, q, terms);
+        if let Some(field) = unknown {
+            return Err(self.refusal(Kind::Unknown, field));
+        }
+        enter(elements, v.0, q);
+        Ok(None)
     }
-    let unknown = element_use(tape, q, terms);
-    if let Use::At(field) = unknown {
-        return refuse(text, tape, p, Kind::Unknown, field);
-    }
-    let mark = (q + 1) as u32;
-    put_element(elements, v, mark);
-    Turn::Goes
-}
 
-// Takes the line at p, which states a theory atom.
-fn take_atom(
-    text: &[u8],
-    tape: &[u32],
-    p: usize,
-    terms: &[u32],
-    elements: &[u32],
-    seen: &mut [u8],
-) -> Turn
-    requires { LineOn tape.now p × (role_of (word tape.now (p + 2)) ≡ role.Atom) × (length seen.old ≡ atom_places) }
-    ensures { Turned text.now tape.now p terms.now elements.now seen.old result terms.now elements.now seen.new }
-{
-    let q = p + SAYS;
-    let unknown = atom_use(tape, q, terms, elements);
-    if let Use::At(field) = unknown {
-        return refuse(text, tape, p, Kind::Unknown, field);
+    // Takes the line, which states a theory atom.
+    fn take_atom(&self, terms: &[u32], elements: &[u32], seen: &mut [bool; ATOM_PLACES]) -> Turn
+        requires { LineFor role.Atom self.now }
+        ensures { Takes self.now terms.now elements.now seen.old result terms.now elements.now seen.new }
+    {
+        let q = self.p + SAYS;
+        let known = Known {
+            tape: self.tape,
+            terms,
+            elements,
+        };
+        let unknown = atom_use(&known, q);
+        if let Some(field) = unknown {
+            return Err(self.refusal(Kind::Unknown, field));
+        }
+        let a = atom_at(self.tape, q, OF);
+        let i = a.0 as usize;
+        if seen[i] {
+            return Err(self.refusal(Kind::Second, FIRST_FIELD));
+        }
+        let Some(d) = known.difference(q) else {
+            return Err(self.refusal(Kind::NoDifference, FIRST_FIELD));
+        };
+        seen[i] = true;
+        Ok(Some((a, d)))
     }
-    let a = atom_at(tape, q, OF);
-    if is_entered(seen, a) {
-        return refuse(text, tape, p, Kind::Second, FIRST_FIELD);
-    }
-    let d = difference(tape, q, terms, elements);
-    let Said::Is(x, y, k) = d else {
-        return refuse(text, tape, p, Kind::NoDifference, FIRST_FIELD);
-    };
-    enter_atom(seen, a);
-    Turn::States(a, x, y, k)
-}
 
-// Takes the line at p.
-pub fn take_line(
-    text: &[u8],
-    tape: &[u32],
-    p: usize,
-    terms: &mut [u32],
-    elements: &mut [u32],
-    seen: &mut [u8],
-) -> Turn
-    requires { LineOn tape.now p × Tables terms.old elements.old seen.old × (length tape.now ≤ longest_text) }
-    ensures { Turned text.now tape.now p terms.old elements.old seen.old result terms.new elements.new seen.new }
-{
-    let kind = word_at(tape, p, SAYS);
-    let role = role_of(kind);
-    match role {
-        Role::Term => take_term(text, tape, p, terms),
-        Role::Element => take_element(text, tape, p, terms, elements),
-        Role::Atom => take_atom(text, tape, p, terms, elements, seen),
-        Role::Other => Turn::Goes,
+    // Takes the line.
+    pub fn take(
+        &self,
+        terms: &mut [u32; TERM_PLACES],
+        elements: &mut [u32; ELEMENT_PLACES],
+        seen: &mut [bool; ATOM_PLACES],
+    ) -> Turn
+        requires { LineOn self.now.tape.now self.now.p × (length self.now.tape.now ≤ longest_text) }
+        ensures { Takes self.now terms.old elements.old seen.old result terms.new elements.new seen.new }
+    {
+        let kind = word_at(self.tape, self.p, SAYS);
+        let role = role_of(kind);
+        match role {
+            Role::Term => self.take_term(terms),
+            Role::Element => self.take_element(terms, elements),
+            Role::Atom => self.take_atom(terms, elements, seen),
+            Role::Other => Ok(None),
+        }
     }
 }

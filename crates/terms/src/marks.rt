@@ -1,48 +1,48 @@
 // Names and external atoms, as bitmaps.
-ghost use Rattle.std.specs.Prelude.{◌≡◌, false, ◌&&◌, ◌||◌, not, ◌+◌, ◌≤◌, length, take, set};
+ghost use Rattle.std.specs.Prelude.{◌≡◌, false, ◌&&◌, ◌||◌, not, ◌+◌, ◌≤◌, set};
 ghost use Rattle.basics.specs.Lists.{among};
 ghost use Rattle.faults.specs.inner.Places.{atom_places, term_places, far_place};
 ghost use Rattle.aspif.specs.Statements.{rule_in};
 ghost use Rattle.aspif.specs.inner.Words.{words_from, says_at, lines_of};
 ghost use Rattle.aspif.specs.inner.Kept.{LineOn, Ahead};
 ghost use Rattle.terms.specs.Says.{head_in, headed};
-ghost use Rattle.terms.specs.inner.Marks.{MarksThose, Remarked};
+ghost use Rattle.terms.specs.inner.Marks.{MarksThose, Remarked, xs_of, ys_of};
 
 use aspif::kinds::RULE;
 use aspif::walk::{after_at, atom_at, word_at};
 use aspif::words::{FIRST_HEAD, HEADS, SAYS};
+use diffs::Difference;
+use faults::{ATOM_PLACES, TERM_PLACES};
 
 // Writes a mark, 1 or 0, where there is a place for it.
+// Kept: a test and an index; once a borrow by `get_mut` is over, a proof knows no element of the slice.
 fn mark(bits: &mut [u8], n: u32, v: u8)
     ensures { bits.new ≡ set bits.old n v }
 {
     let i = n as usize;
-    if bits.len() <= i {
-        return;
-    }
-    bits[i] = v;
-}
-
-// Marks the first m numbers of a list.
-fn mark_all(list: &[u32], m: usize, bits: &mut [u8])
-    requires { m ≤ length list.now }
-    ensures { Remarked bits.old bits.new (λ b a. b || among a (take m list.now)) }
-{
-    let mut i = 0;
-    while i < m {
-        let n = list[i];
-        mark(bits, n, 1);
-        i += 1;
+    if i < bits.len() {
+        bits[i] = v;
     }
 }
 
-// Marks the names of the first m differences, in a bitmap that marks none.
-pub fn mark_names(xs: &[u32], ys: &[u32], m: usize, names: &mut [u8])
-    requires { (m ≤ length xs.now) × (m ≤ length ys.now) × MarksThose term_places names.old (λ n. false) }
-    ensures { MarksThose term_places names.new (λ n. among n (take m xs.now) || among n (take m ys.now)) }
+// Marks the numbers of a list.
+fn mark_all(list: &[u32], bits: &mut [u8])
+    ensures { Remarked bits.old bits.new (λ b a. b || among a list.now) }
 {
-    mark_all(xs, m, names);
-    mark_all(ys, m, names);
+    for n in list {
+        mark(bits, *n, 1);
+    }
+}
+
+// Marks the names of differences, in a bitmap that marks none.
+pub fn mark_names(found: &[Difference], names: &mut [u8; TERM_PLACES])
+    requires { MarksThose term_places names.old (λ n. false) }
+    ensures { MarksThose term_places names.new (λ n. among n (xs_of found.now) || among n (ys_of found.now)) }
+{
+    for d in found {
+        mark(names, d.x.0, 1);
+        mark(names, d.y.0, 1);
+    }
 }
 
 // Takes the marks of the n atoms from `from` on away.
@@ -50,13 +50,9 @@ fn clear_list(tape: &[u32], from: usize, n: u32, bits: &mut [u8])
     requires { from ≤ far_place }
     ensures { Remarked bits.old bits.new (λ b a. b && not (among a (words_from tape.now from n))) }
 {
-    let mut left = n;
-    let mut q = from;
-    while 0 < left {
-        let a = atom_at(tape, q, 0);
+    for i in 0..n as usize {
+        let a = atom_at(tape, from + i, 0);
         mark(bits, a.0, 0);
-        q += 1;
-        left -= 1;
     }
 }
 
@@ -81,19 +77,17 @@ fn clear_heads(tape: &[u32], n: usize, bits: &mut [u8])
     ensures { Remarked bits.old bits.new (λ b a. b && not (headed (lines_of tape.now n) a)) }
 {
     let mut p = 0;
-    let mut left = n;
-    while 0 < left {
+    for _ in 0..n {
         clear_line(tape, p, bits);
         p = after_at(tape, p);
-        left -= 1;
     }
 }
 
-// Marks the external atoms among the atoms of the m differences that the n lines state, in a bitmap that marks none.
-pub fn externals(tape: &[u32], n: usize, atoms: &[u32], m: usize, ext: &mut [u8])
-    requires { Ahead tape.now 0 n × (m ≤ length atoms.now) × MarksThose atom_places ext.old (λ a. false) }
-    ensures { MarksThose atom_places ext.new (λ a. among a (take m atoms.now) && not (headed (lines_of tape.now n) a)) }
+// Marks the external atoms among the atoms of the differences that the n lines state, in a bitmap that marks none.
+pub fn externals(tape: &[u32], n: usize, atoms: &[u32], ext: &mut [u8; ATOM_PLACES])
+    requires { Ahead tape.now 0 n × MarksThose atom_places ext.old (λ a. false) }
+    ensures { MarksThose atom_places ext.new (λ a. among a atoms.now && not (headed (lines_of tape.now n) a)) }
 {
-    mark_all(atoms, m, ext);
+    mark_all(atoms, ext);
     clear_heads(tape, n, ext);
 }

@@ -8,13 +8,12 @@ use native.Mathlib.Omega.{arith}
 use lib.Dec.{eqb}
 use Rattle.basics.specs.Bools.{pick}
 use Rattle.faults.specs.Answer.{got, refused}
-use Rattle.faults.specs.Values.{number}
+use Rattle.faults.specs.Values.{number, as_answer}
 use Rattle.faults.specs.declared.Refusal.{Refusal}
 use Rattle.faults.proofs.Numbers.{same_kind}
 use Rattle.timetable.specs.Table.{Record, content_of, is_table}
-use Rattle.timetable.specs.Times.{as_time, time_among, time_of}
-use Rattle.timetable.specs.declared.Time.{Time}
-use Rattle.timetable.specs.declared.Time.TheVariants.{At, Refused}
+use Rattle.std.specs.Prelude.{Result, Ok, Err}
+use Rattle.timetable.specs.Times.{time_among, time_of}
 
 -- ---- 20
 
@@ -43,15 +42,15 @@ same-refusal r q e f =
     let g : ◌≡◌ {A = Refusal} (record { kind = r.kind; place = r.place }) (record { kind = q.kind; place = q.place }) = rw (e, f) in
     g
 
-same-time : (a b : Time) → as_time a ≡ as_time b → a ≡ b
-same-time (At t) (At u) e = let d : t ≡ u = (cc) in rw d
-same-time (At t) (Refused r) e = absurd (let z : ◌≡◌ {A = ℕ} 0 1 = (cc) in omega arith)
-same-time (Refused r) (At t) e = absurd (let z : ◌≡◌ {A = ℕ} 0 1 = (cc) in omega arith)
-same-time (Refused r) (Refused q) e =
+same-time : (a b : Result ℕ Refusal) → as_answer a ≡ as_answer b → a ≡ b
+same-time (Ok t) (Ok u) e = let d : t ≡ u = (cc) in rw d
+same-time (Ok t) (Err r) e = absurd (let z : ◌≡◌ {A = ℕ} 0 1 = (cc) in omega arith)
+same-time (Err r) (Ok t) e = absurd (let z : ◌≡◌ {A = ℕ} 0 1 = (cc) in omega arith)
+same-time (Err r) (Err q) e =
     let k : number r.kind ≡ number q.kind = (cc) in
     let p : r.place ≡ q.place = (cc) in
-    ap Refused (same-refusal r q (same_kind r.kind q.kind k) p)
+    ap Err (same-refusal r q (same_kind r.kind q.kind k) p)
 
 -- for each slice and number the contract allows one answer
-pub one_time : (s : List ℕ) (u : ℕ) (a b : Time) → as_time a ≡ time_of s u → as_time b ≡ time_of s u → a ≡ b
+pub one_time : (s : List ℕ) (u : ℕ) (a b : Result ℕ Refusal) → as_answer a ≡ time_of s u → as_answer b ≡ time_of s u → a ≡ b
 one_time s u a b p q = same-time a b (p ∙ sym q)

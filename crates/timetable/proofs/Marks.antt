@@ -1,7 +1,7 @@
 -- Marked numbers of a bitmap: none left, one passed, one taken; how many they are, and that they ascend.
 use Prim.Native.Nat.{ℕ, suc, ◌+◌, ◌-◌, ◌≤◌, ◌<◌}
-use mathlib.Core.Path.{◌≡◌, refl}
-use mathlib.Core.Bool.{Bool, true, false}
+use mathlib.Core.Path.{◌≡◌, refl, ap}
+use mathlib.Core.Bool.{Bool, true, false, cond}
 use mathlib.Core.List.{List, [], ◌∷◌}
 use native.Mathlib.Omega.{arith}
 use native.Mathlib.Numerals.{add-one}
@@ -9,6 +9,7 @@ use borrow.Author.Tests.{eq-eqb, ne_eqb, le-leb}
 use lib.Dec.{eqb}
 use lib.ListN.{length, get_or, drop, length-drop, drop_of_length-le}
 use lib.Seq.{drop-cons}
+use Rattle.std.specs.Prelude.{filter}
 use Rattle.basics.specs.Bools.{pick}
 use Rattle.basics.specs.inner.Bitmaps.{marks, marked_from}
 use Rattle.timetable.specs.Table.{ascends}
@@ -35,6 +36,17 @@ few-marks i (b ∷ bs) = go (eqb b 1) (few-marks (i + 1) bs)
         → length (pick t (i ∷ marks (i + 1) bs) (marks (i + 1) bs)) ≤ suc (length bs)
     go true h = omega arith
     go false h = omega arith
+
+-- as many numbers are marked as places hold 1
+pub count-marks : (i : ℕ) (bs : List ℕ) → length (filter (λ b. eqb b 1) bs) ≡ length (marks i bs)
+unfolding marks
+count-marks i [] = refl
+count-marks i (b ∷ bs) = go (eqb b 1) (count-marks (i + 1) bs)
+  where
+    go : (t : Bool) → length (filter (λ c. eqb c 1) bs) ≡ length (marks (i + 1) bs)
+        → length (cond t (b ∷ filter (λ c. eqb c 1) bs) (filter (λ c. eqb c 1) bs)) ≡ length (pick t (i ∷ marks (i + 1) bs) (marks (i + 1) bs))
+    go true e = ap suc e
+    go false e = e
 
 -- no more numbers are marked than there are places
 pub few-marked : (map : List ℕ) (i : ℕ) → length (marked_from i map) ≤ length map - i

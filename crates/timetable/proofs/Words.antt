@@ -1,23 +1,20 @@
 -- Words of four bytes: how they are stored, and that bytes and number give each other.
 use Prim.Native.Nat.{ℕ, suc, ◌+◌, ◌*◌, ◌/◌, ◌%◌, ◌≤◌, ◌<◌}
-use mathlib.Core.Path.{◌≡◌, sym, subst, ◌∙◌}
-use mathlib.Core.List.{List, [], ◌∷◌, ◌++◌}
+use mathlib.Core.Path.{◌≡◌, ap, sym, subst, ◌∙◌}
+use mathlib.Core.List.{List, [], ◌∷◌, ◌++◌, append_assoc}
+use borrow.Rule.Slice.PartMut.{put_mid}
 use native.Mathlib.Omega.{arith}
 use native.Mathlib.Nat.{add-zero}
-use lib.ListN.{length, get_or, set, drop}
-use lib.Seq.{sets, get_or-drop, drop-drop, drop-cons}
+use lib.ListN.{length, get_or, take, drop}
+use lib.Seq.{sets, sets-eq, get_or-drop, drop-drop, drop-cons}
 use Rattle.timetable.specs.Word.{four_bytes, word_at}
 
--- four bytes stored one by one are a word stored
-pub word-stored : (l : List ℕ) (p w a b c d : ℕ)
-    → a ≡ w % 256 → b ≡ w / 256 % 256 → c ≡ w / 65536 % 256 → d ≡ w / 16777216 % 256
-    → set (set (set (set l p a) (p + 1) b) (p + 2) c) (p + 3) d ≡ sets l p (four_bytes w)
+-- four bytes that replace the four at a place are a word stored
+pub word-stored : (l bs : List ℕ) (p w k : ℕ) → p + 4 ≤ length l → k ≡ 4 → bs ≡ four_bytes w → put_mid p k l bs ≡ sets l p (four_bytes w)
 unfolding four_bytes
-word-stored l p w a b c d ea eb ec ed =
-    let e : p + 1 ≡ suc p = omega arith in
-    let f : p + 2 ≡ suc (suc p) = omega arith in
-    let g : p + 3 ≡ suc (suc (suc p)) = omega arith in
-    rw (ea, eb, ec, ed, e, f, g)
+word-stored l bs p w k h e f =
+    let d : drop k (drop p l) ≡ drop (p + 4) l = drop-drop k p l ∙ ap (λ (i : ℕ). drop i l) (omega (arith, e)) in
+    rw (f, d) (sym (append_assoc (take p l) (four_bytes w) (drop (p + 4) l)) ∙ sym (sets-eq (four_bytes w) l p h))
 
 four : (v : ℕ) → v < 4294967296
     → v % 256 + 256 * (v / 256 % 256) + 65536 * (v / 65536 % 256) + 16777216 * (v / 16777216 % 256) ≡ v

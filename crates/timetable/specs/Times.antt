@@ -2,15 +2,7 @@
 use Rattle.std.specs.Prelude.{ℕ, List, [], ◌∷◌, eqb}
 use Rattle.basics.specs.Bools.{pick}
 use Rattle.faults.specs.Answer.{Answer, got, refused}
-use Rattle.faults.specs.Values.{number}
 use Rattle.timetable.specs.Table.{Record, content_of, is_table}
-use Rattle.timetable.specs.declared.Time.{Time}
-use Rattle.timetable.specs.declared.Time.TheVariants.{At, Refused}
-
--- the number and the values of each case of a time
-abbrev pub as_time : Time → Answer ℕ
-as_time (At t) = got t
-as_time (Refused r) = refused (number r.kind) r.place
 
 -- the time of name u among records, or 21
 unfoldable pub time_among : ℕ → List Record → Answer ℕ

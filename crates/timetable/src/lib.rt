@@ -1,17 +1,18 @@
 // The timetable: writes its bytes into a room that is lent, and reads a time from them.
 #![tactic(auto)]
 
-ghost use Rattle.std.specs.Prelude.{◌≡◌, ◌+◌, ◌-◌, ◌*◌, ◌≤◌, ◌%◌, ◌&&◌, ◌++◌, length};
+ghost use Rattle.std.specs.Prelude.{◌≡◌, ◌+◌, ◌-◌, ◌*◌, ◌≤◌, ◌&&◌, ◌++◌, map, length};
 ghost use Rattle.std.proofs.lemmas.List.Edits.{sets};
 ghost use Rattle.basics.specs.inner.Bitmaps.{marked_from};
 ghost use Rattle.faults.specs.Limits.{last_atom, last_term};
 ghost use Rattle.faults.specs.inner.Places.{atom_places, term_places};
+ghost use Rattle.faults.specs.Values.{as_answer};
 ghost use Rattle.timetable.specs.Word.{four_bytes, word_at};
-ghost use Rattle.timetable.specs.Table.{records_of, record_bytes, atom_bytes, header_length, header_bytes, table_of, ascends, times_fit, names_of, records_at, atoms_at, is_table};
-ghost use Rattle.timetable.specs.Times.{as_time, time_among, time_of};
-ghost use Rattle.timetable.specs.inner.Given.{time_at, given, WriterRooms, Timely, WrittenTable};
+ghost use Rattle.timetable.specs.Table.{records_of, record_bytes, atom_bytes, header_length, header_bytes, table_of, ascends, times_fit, names_of, is_table};
+ghost use Rattle.timetable.specs.Times.{time_among, time_of};
+ghost use Rattle.timetable.specs.inner.Given.{time_at, record_of, atom_of, given, WriterRooms, Timely, WrittenTable};
 
-use faults::{AtomNo, Kind, LAST_ATOM, LAST_TERM, Refusal, TermNo};
+use faults::{Kind, LAST_ATOM, LAST_TERM, Refusal, TermNo};
 
 // The largest time of a timetable.
 const LATEST: u32 = 1023000000;
@@ -19,29 +20,12 @@ const LATEST: u32 = 1023000000;
 // The bytes of the header.
 pub const HEADER: usize = 16;
 
-// What the reader answers: a time, or why there is none.
-#[derive(Clone, Copy)]
-pub enum Time {
-    At(u32),
-    Refused(Refusal),
-}
-
-// The lowest byte of a number.
-fn low_byte(w: u32) -> u8
-    ensures { result ≡ w % 256 }
-{
-    (w % 256) as u8
-}
-
 // Writes the four bytes of a number at a place.
 fn put_word(room: &mut [u8], at: usize, w: u32)
     requires { at + 4 ≤ length room.old }
     ensures { room.new ≡ sets room.old at (four_bytes w) }
 {
-    room[at] = low_byte(w);
-    room[at + 1] = low_byte(w / 256);
-    room[at + 2] = low_byte(w / 65536);
-    room[at + 3] = low_byte(w / 16777216);
+    room[at..at + 4].copy_from_slice(&w.to_le_bytes());
 }
 
 // Writes a record at a place.
@@ -53,30 +37,12 @@ fn put_record(room: &mut [u8], at: usize, name: TermNo, time: u32)
     put_word(room, at + 4, time);
 }
 
-// Writes an atom at a place.
-fn put_atom(room: &mut [u8], at: usize, atom: AtomNo)
-    requires { at + 4 ≤ length room.old }
-    ensures { room.new ≡ sets room.old at (four_bytes atom.0) }
-{
-    put_word(room, at, atom.0);
-}
-
 // How many numbers of a bitmap, from one on, are marked.
 pub fn count_marked(map: &[u8], from: usize) -> usize
     ensures value { result ≡ length (marked_from from map.now) }
     ensures upper_bound { result ≤ length map.now - from }
 {
-    let mut n = 0;
-    let mut i = from;
-    while i < map.len() {
-        let b = map[i];
-        i += 1;
-        if b != 1 {
-            continue;
-        }
-        n += 1;
-    }
-    n
+    map.iter().skip(from).filter(|b| **b == 1).count()
 }
 
 // Writes the header of a table of n names and m atoms.
@@ -100,22 +66,17 @@ fn write_names(part: &mut [u8], names: &[u8], times: &[u64]) -> usize
     ensures value { (result ≡ 8 * length (marked_from 0 names.now)) × (result ≤ 8 * term_places) }
 {
     let mut at = 0;
-    let mut i = 0;
-    while i < names.len() {
-        let here = i;
-        i += 1;
-        if names[here] != 1 {
-            continue;
+    for (u, mark) in names.iter().enumerate() {
+        if *mark == 1 {
+            put_record(part, at, TermNo(u as u32), times[u] as u32);
+            at += 8;
         }
-        let name = here as u32;
-        let time = times[here] as u32;
-        put_record(part, at, TermNo(name), time);
-        at += 8;
     }
     at
 }
 
 // Writes the marked atoms into the part of the room that begins at their offset, and answers how many bytes they take.
+// Kept: a writer of its own beside `write_names`; each gets a mutable part of the room that begins in its middle (docs/DECISIONS.md).
 fn write_atoms(part: &mut [u8], atoms: &[u8]) -> usize
     requires atoms_len_bound { length atoms.now ≤ atom_places }
     requires atoms_in_bounds { 4 * length (marked_from 1 atoms.now) ≤ length part.old }
@@ -123,16 +84,11 @@ fn write_atoms(part: &mut [u8], atoms: &[u8]) -> usize
     ensures value { (result ≡ 4 * length (marked_from 1 atoms.now)) × (result ≤ 4 * last_atom) }
 {
     let mut at = 0;
-    let mut i = 1;
-    while i < atoms.len() {
-        let here = i;
-        i += 1;
-        if atoms[here] != 1 {
-            continue;
+    for a in 1..atoms.len() {
+        if atoms[a] == 1 {
+            put_word(part, at, a as u32);
+            at += 4;
         }
-        let atom = here as u32;
-        put_atom(part, at, AtomNo(atom));
-        at += 4;
     }
     at
 }
@@ -152,72 +108,41 @@ pub fn write(room: &mut [u8], names: &[u8], times: &[u64], atoms: &[u8]) -> usiz
     at + b
 }
 
-// A byte as a wider number.
-fn wide(b: u8) -> u32
-    ensures { (result ≡ b) × (result ≤ 255) }
-{
-    b as u32
-}
-
 // The number whose four bytes stand at a place.
 pub fn word_at(table: &[u8], p: usize) -> u32
     requires { p + 4 ≤ length table.now }
     ensures { result ≡ word_at table.now p }
 {
-    let a = wide(table[p]);
-    let b = wide(table[p + 1]);
-    let c = wide(table[p + 2]);
-    let d = wide(table[p + 3]);
-    a + 256 * b + 65536 * c + 16777216 * d
+    u32::from_le_bytes([table[p], table[p + 1], table[p + 2], table[p + 3]])
 }
 
-// Whether n records from a place on ascend and are within the bounds.
-fn records_within(table: &[u8], n: usize, from: usize) -> bool
-    requires { from + 8 * n ≤ length table.now }
-    ensures { result ≡ ascends 0 last_term (names_of (records_at table.now n from)) && times_fit (records_at table.now n from) }
+// Whether records ascend and are within the bounds.
+fn records_within(records: &[[u8; 8]]) -> bool
+    ensures { let rs = map record_of records.now in result ≡ ascends 0 last_term (names_of rs) && times_fit rs }
 {
-    let mut low: u32 = 0;
-    let mut left = n;
-    let mut p = from;
-    while 0 < left {
-        let name = word_at(table, p);
-        let q = p + 4;
-        let time = word_at(table, q);
-        if name < low {
-            return false;
-        }
-        if LAST_TERM < name {
-            return false;
-        }
-        if LATEST < time {
+    let mut low = 0;
+    for record in records {
+        let name = word_at(record, 0);
+        let time = word_at(record, 4);
+        if name < low || LAST_TERM < name || LATEST < time {
             return false;
         }
         low = name + 1;
-        p += 8;
-        left -= 1;
     }
     true
 }
 
-// Whether n atoms from a place on ascend and are within the bounds.
-fn atoms_within(table: &[u8], n: usize, from: usize) -> bool
-    requires { from + 4 * n ≤ length table.now }
-    ensures { result ≡ ascends 1 last_atom (atoms_at table.now n from) }
+// Whether atoms ascend and are within the bounds.
+fn atoms_within(atoms: &[[u8; 4]]) -> bool
+    ensures { result ≡ ascends 1 last_atom (map atom_of atoms.now) }
 {
-    let mut low: u32 = 1;
-    let mut left = n;
-    let mut p = from;
-    while 0 < left {
-        let atom = word_at(table, p);
-        if atom < low {
-            return false;
-        }
-        if LAST_ATOM < atom {
+    let mut low = 1;
+    for atom in atoms {
+        let atom = word_at(atom, 0);
+        if atom < low || LAST_ATOM < atom {
             return false;
         }
         low = atom + 1;
-        p += 4;
-        left -= 1;
     }
     true
 }
@@ -234,54 +159,34 @@ fn is_table(table: &[u8]) -> bool
     let first = word_at(table, 8) as usize;
     let second = word_at(table, 12) as usize;
     let at = HEADER + 8 * n;
-    let end = at + 4 * m;
-    if table.len() != end {
+    if table.len() != at + 4 * m || first != HEADER || second != at {
         return false;
     }
-    if first != HEADER {
-        return false;
-    }
-    if second != at {
-        return false;
-    }
-    if records_within(table, n, HEADER) {
-        return atoms_within(table, m, at);
-    }
-    false
+    let (records, _) = table[HEADER..at].as_chunks();
+    let (atoms, _) = table[at..].as_chunks();
+    records_within(records) && atoms_within(atoms)
 }
 
-// The time of a name among n records from a place on, or 21.
-fn time_among(table: &[u8], n: usize, from: usize, name: TermNo) -> Time
-    requires { from + 8 * n ≤ length table.now }
-    ensures { as_time result ≡ time_among name.0 (records_at table.now n from) }
+// The time of a name among records, or 21.
+fn time_among(records: &[[u8; 8]], name: TermNo) -> Result<u32, Refusal>
+    ensures { as_answer result ≡ time_among name.0 (map record_of records.now) }
 {
-    let mut left = n;
-    let mut p = from;
-    while 0 < left {
-        if word_at(table, p) == name.0 {
-            let q = p + 4;
-            return Time::At(word_at(table, q));
+    for record in records {
+        if word_at(record, 0) == name.0 {
+            return Ok(word_at(record, 4));
         }
-        p += 8;
-        left -= 1;
     }
-    let place = name.0 as usize;
-    Time::Refused(Refusal {
-        kind: Kind::NotNamed,
-        place,
-    })
+    Err(Kind::NotNamed.at(name.0 as usize))
 }
 
 // The time of a name in a timetable; or 20 where the slice is none, or 21 where the name is not in it.
-pub fn time_of(table: &[u8], name: TermNo) -> Time
-    ensures { as_time result ≡ time_of table.now name.0 }
+pub fn time_of(table: &[u8], name: TermNo) -> Result<u32, Refusal>
+    ensures { as_answer result ≡ time_of table.now name.0 }
 {
-    if is_table(table) {
-        let n = word_at(table, 0) as usize;
-        return time_among(table, n, HEADER, name);
+    if !is_table(table) {
+        return Err(Kind::NotTable.at(0));
     }
-    Time::Refused(Refusal {
-        kind: Kind::NotTable,
-        place: 0,
-    })
+    let n = word_at(table, 0) as usize;
+    let (records, _) = table[HEADER..HEADER + 8 * n].as_chunks();
+    time_among(records, name)
 }

@@ -1,25 +1,21 @@
--- Inner: what each case of the reader's answer stands for. Assumes nothing.
-use Rattle.std.specs.Prelude.{ℕ, List, length}
+-- Inner: what each answer of the reader stands for. Assumes nothing.
+use Rattle.std.specs.Prelude.{ℕ, List, length, Result, Ok, Err}
 use Rattle.std.proofs.lemmas.List.Edits.{sets}
 use Rattle.faults.specs.Answer.{Answer, got, refused}
 use Rattle.faults.specs.Values.{number}
-use Rattle.faults.specs.declared.Step.{Step}
-use Rattle.faults.specs.declared.Step.TheVariants.{Good, Refused}
-use Rattle.fields.specs.Reading.{Reading, found}
-use Rattle.fields.specs.inner.Values.{fault_of}
+use Rattle.faults.specs.declared.AtomNo.{AtomNo}
+use Rattle.faults.specs.declared.Refusal.{Refusal}
+use Rattle.fields.specs.Reading.{Reading}
+use Rattle.fields.specs.declared.Cursor.{Cursor}
+use Rattle.fields.specs.inner.Values.{as_field}
 use Rattle.aspif.specs.Statements.{Line}
 use Rattle.aspif.specs.inner.Words.{all_words}
 use Rattle.aspif.specs.inner.Kept.{Ahead}
 use Rattle.aspif.specs.inner.Bitmap.{atoms_of, EndsAt}
 use Rattle.aspif.specs.declared.lines.Header.{Header}
-use Rattle.aspif.specs.declared.lines.HeaderField.{HeaderField}
-use Rattle.aspif.specs.declared.lines.HeaderField.TheVariants as first
-use Rattle.aspif.specs.declared.candidate.Marked.{Marked}
-use Rattle.aspif.specs.declared.candidate.Marked.TheVariants as marked
 
-abbrev pub as_header : HeaderField → Reading Header
-as_header (first.Got h c) = found h c.at
-as_header (first.Refused r) = fault_of r
+abbrev pub as_header : Result (Header × Cursor) Refusal → Reading Header
+as_header r = as_field r
 
 -- what the tape holds, and how many lines it has
 pub record Tape : Type 0 where
@@ -27,9 +23,9 @@ pub record Tape : Type 0 where
   pub lines : ℕ
 
 -- with what the tape holds then
-abbrev pub as_tape : Step → List ℕ → Answer Tape
-as_tape (Good n) t = got (record { tape = t; lines = n })
-as_tape (Refused r) t = refused (number r.kind) r.place
+abbrev pub as_tape : Result ℕ Refusal → List ℕ → Answer Tape
+as_tape (Ok n) t = got (record { tape = t; lines = n })
+as_tape (Err r) t = refused (number r.kind) r.place
 
 -- the words of the lines stand in the first places of the tape, and nothing else of it changes
 unfoldable pub taped : List ℕ → Answer (List Line) → Answer Tape
@@ -37,16 +33,16 @@ taped t (got xs) = got (record { tape = sets t 0 (all_words xs); lines = length 
 taped t (refused k p) = refused k p
 
 -- a tape that was read can be walked
-abbrev pub taped_if : Step → List ℕ → Type 0
-taped_if (Good n) t = Ahead t 0 n
-taped_if (Refused r) t = Unit {0}
+abbrev pub taped_if : Result ℕ Refusal → List ℕ → Type 0
+taped_if (Ok n) t = Ahead t 0 n
+taped_if (Err r) t = Unit {0}
 
 -- with what the bitmap holds then
-abbrev pub as_marked : Marked → List ℕ → Answer (List ℕ)
-as_marked (marked.Done a) x = got (atoms_of x)
-as_marked (marked.Refused r) x = refused (number r.kind) r.place
+abbrev pub as_marked : Result AtomNo Refusal → List ℕ → Answer (List ℕ)
+as_marked (Ok a) x = got (atoms_of x)
+as_marked (Err r) x = refused (number r.kind) r.place
 
 -- no atom above the last is marked
-abbrev pub MarkedTo : Marked → List ℕ → Type 0
-MarkedTo (marked.Done a) x = EndsAt a.0 x
-MarkedTo (marked.Refused r) x = Unit {0}
+abbrev pub MarkedTo : Result AtomNo Refusal → List ℕ → Type 0
+MarkedTo (Ok a) x = EndsAt a.0 x
+MarkedTo (Err r) x = Unit {0}

@@ -1,24 +1,23 @@
--- `settle`: r rounds are made, each of which raised something, the last one the name `last`.
-use mathlib.Core.Path.{refl}
+-- `settle`: as many rounds are made as are counted, each of which raised something, the last one the name `last`.
 use native.Mathlib.Omega.{arith}
-use Rattle.diffs.specs.declared.Raised.TheVariants.{Quiet, Name}
-use Rattle.diffs.proofs.Rounds.{first, quiet, next, stuck, rounded}
+use Rattle.std.specs.Prelude.{None, Some}
+use Rattle.diffs.proofs.Rounds.{first, quiet, next, ended}
 use Rattle.diffs.proofs.settle.Goals as goal
 
-pub loop-r-init : goal.loop-r-init
-loop-r-init c =
-    let g = c.requires in
-    (omega arith, first _ _ _ _ _ g.zeros refl g.parents)
+pub loop-init : goal.loop-init
+loop-init c = (None, first _ _ _ _ _ c.requires.zeros c.told-t c.told-p)
 
-pub returns-in-Quiet : goal.returns-in-Quiet
-returns-in-Quiet c = quiet _ _ _ _ _ _ (rounded _ _ _ _ _ _ _ _ _ Quiet c.loop-r.invariant.1 (rw c.in-Quiet.is at c.round-last.ensures))
+pub returns-in_err-round : goal.returns-in_err-round
+returns-in_err-round c =
+    let i = c.loop.invariant in
+    rw c.from_residual.ensures (quiet _ _ _ _ _ _ (c.in_err-round.ensures _ i.0 i.1))
 
-pub loop-r-preserved : goal.loop-r-preserved
-loop-r-preserved c = (
-  omega arith,
-  rw c.in_default.is (next _ _ _ _ _ _ _
-      (rounded _ _ _ _ _ _ _ _ _ (Name _) c.loop-r.invariant.1 (rw c.in_default.is at c.round-last.ensures))),
-)
+pub loop-preserved : goal.loop-preserved
+loop-preserved c =
+    let i = c.loop.invariant in
+    (Some c.in_ok-round.field-0, next _ _ _ _ _ _ _ (c.in_ok-round.ensures _ i.0 i.1))
 
 pub returns : goal.returns
-returns c = stuck _ _ _ _ _ _ _ c.loop-r.invariant.1 (omega arith)
+returns c =
+    let i = c.loop.invariant in
+    ended _ _ _ _ _ (c.round-2.ensures _ i.0 i.1) (omega arith)

@@ -1,16 +1,12 @@
-use Prim.Native.Nat.{◌-◌}
-use lib.ListN.{get_or}
-use lib.IntN.{pos}
+-- `sum_of`: the sum so far is that of the bounds passed.
+use borrow.Author.Rules.{rules}
 use mir.Syntax.{w32}
 use mir.Val.{SFits}
-use Rattle.diffs.specs.inner.Answer.{cell}
-use Rattle.diffs.proofs.Signs.{back64}
+use Rattle.diffs.specs.inner.Answer.{cell, diff_at}
 use Rattle.diffs.proofs.Summing.{summed-more}
-use borrow.Author.Rules.{rules}
 use Rattle.diffs.proofs.sum_of.Goals as goal
 
-pub loop-i-preserved : goal.loop-i-preserved
-loop-i-preserved c =
-    let g = c.requires in
-    let k : SFits w32 (get_or c.args.ks.now (cell c.args.w.now (c.loop-i.i - 1)) (pos 0)) = search rules in
-    summed-more _ _ _ _ _ _ _ c.loop-i.invariant c.loop-i-test.true (back64 k) k g.1 g.0.within
+pub loop-e-preserved : goal.loop-e-preserved
+loop-e-preserved c =
+    let f : SFits w32 (diff_at c.args.differences.now (cell c.args.walk.now c.loop-e.e-index)).k = search rules in
+    summed-more _ _ _ _ c.loop-e.invariant c.loop-e-test.true c.requires.short f _ c.from-sum.ensures

@@ -1,66 +1,56 @@
 -- `judge::before_times` meets its contract: each step is a refusal, or what the next one needs. Assumes nothing.
-use Prim.Native.Nat.{ℕ}
-use mathlib.Core.Path.{refl, sym, ap, ◌∙◌}
-use mathlib.Core.List.{List, []}
+use mathlib.Core.Path.{refl, sym}
 use native.Mathlib.Omega.{arith}
+use Rattle.std.proofs.lemmas.Result.{err_from_is_err_and}
 use Rattle.faults.specs.inner.Places.{atom_places}
-use Rattle.faults.specs.Answer.{mapped}
-use Rattle.terms.specs.Terms.{Stated}
 use Rattle.terms.proofs.Marking.{marks-zeros}
 use Rattle.judge.specs.Plan.{asked}
 use Rattle.judge.specs.Judged.{unreadable}
 use Rattle.judge.proofs.Staging.{unread, unsound, passed, mispaired, breaking, unfounding, upheld}
 use Rattle.judge.proofs.before_times.Goals as goal
 
-pub returns-in_default : goal.returns-in_default
-returns-in_default c =
+pub returns-in_err-n : goal.returns-in_err-n
+returns-in_err-n c =
     let pre = c.requires.text_in_bounds in
-    let e = rw c.refusal.ensures at c.read-a.ensures.result_after in
-    λ b z. unreadable _ _ (unread _ b z (omega (arith, pre)) _ _ (sym e)) refl
+    let r = err_from_is_err_and c.from_residual.result c.from_residual.ensures.1 in
+    rw (r.1, r.2) (λ b z. unreadable _ _ (unread _ b z (omega (arith, pre)) _ _ (sym c.in_err-n.ensures.result_after)) refl)
 
-pub returns-in_default-b : goal.returns-in_default-b
-returns-in_default-b c =
+pub returns-in_err-m : goal.returns-in_err-m
+returns-in_err-m c =
     let pre = c.requires.text_in_bounds in
-    let e = rw c.in-Good.is at c.read-a.ensures.result_after in
-    let d = sym (ap (mapped {A = ℕ} {B = List Stated} (λ n. [])) (rw c.in_default-b.is at c.refusal-in_default-b.ensures)) ∙
-    (rw c.in_default-b.is at c.collect-b.ensures.ks_after) in
-    λ b z. unreadable _ _ (unsound _ b z (omega (arith, pre)) _ (sym e) _ _ (sym d)) refl
+    let r = err_from_is_err_and c.from_residual-in_err-m.result c.from_residual-in_err-m.ensures.1 in
+    rw (r.1, r.2) (λ b z. unreadable _ _ (unsound _ b z (omega (arith, pre)) _ (sym c.in_ok-n.ensures.result_after) _ _ (sym c.in_err-m.ensures.found_after)) refl)
 
-pub returns-in_default-marked : goal.returns-in_default-marked
-returns-in_default-marked c =
-    let p = passed (asked c.args.text.now c.args.cand.now) {ks = c.collect-b.new.ks} c.requires.text_in_bounds c.read-a.auto.tape
-    (rw c.in-Good.is at c.read-a.ensures.result_after) (rw c.in-Good.is at c.read-a.ensures.taped_if)
-    (rw c.in-Good-b.is at c.collect-b.ensures.ks_after) (rw c.in-Good-b.is at c.collect-b.ensures.stated_within) in
-    mispaired p (sym (c.refusal-in_default-marked.ensures _) ∙ c.candidate-marked.ensures.x_after)
+pub returns-in_err-last : goal.returns-in_err-last
+returns-in_err-last c =
+    let r = err_from_is_err_and c.from_residual-in_err-last.result c.from_residual-in_err-last.ensures.1 in
+    let n = c.in_ok-n.ensures in
+    let m = c.in_ok-m.ensures in
+    let p = passed (asked c.args.text.now c.args.cand.now) c.requires.text_in_bounds c.read.auto.tape n.result_after n.taped_if m.found_after m.stated_within in
+    rw (r.1, r.2) (mispaired p c.in_err-last.ensures.x_after)
 
-pub returns-in-At : goal.returns-in-At
-returns-in-At c =
-    let p = passed (asked c.args.text.now c.args.cand.now) {ks = c.collect-b.new.ks} c.requires.text_in_bounds c.read-a.auto.tape
-    (rw c.in-Good.is at c.read-a.ensures.result_after) (rw c.in-Good.is at c.read-a.ensures.taped_if)
-    (rw c.in-Good-b.is at c.collect-b.ensures.ks_after) (rw c.in-Good-b.is at c.collect-b.ensures.stated_within) in
-    rw c.refused.ensures (breaking p _ (rw c.in-Done.is at c.candidate-marked.ensures.x_after) (rw c.in-At.is at c.first_broken-broken.ensures))
+pub returns-in-Some : goal.returns-in-Some
+returns-in-Some c =
+    let n = c.in_ok-n.ensures in
+    let m = c.in_ok-m.ensures in
+    let p = passed (asked c.args.text.now c.args.cand.now) c.requires.text_in_bounds c.read.auto.tape n.result_after n.taped_if m.found_after m.stated_within in
+    rw c.at.ensures (breaking p _ c.in_ok-last.ensures.x_after c.in-Some.ensures)
 
 pub externals-requires : goal.externals-requires
-externals-requires c =
-    let p = passed (asked c.args.text.now c.args.cand.now) {ks = c.collect-b.new.ks} c.requires.text_in_bounds c.read-a.auto.tape
-    (rw c.in-Good.is at c.read-a.ensures.result_after) (rw c.in-Good.is at c.read-a.ensures.taped_if)
-    (rw c.in-Good-b.is at c.collect-b.ensures.ks_after) (rw c.in-Good-b.is at c.collect-b.ensures.stated_within) in
-    (p.taped, p.stating.roomy.in_atoms, marks-zeros atom_places)
+externals-requires c = (c.in_ok-n.ensures.taped_if, marks-zeros atom_places)
 
-pub returns-in-Atom : goal.returns-in-Atom
-returns-in-Atom c =
-    let p = passed (asked c.args.text.now c.args.cand.now) {ks = c.collect-b.new.ks} c.requires.text_in_bounds c.read-a.auto.tape
-    (rw c.in-Good.is at c.read-a.ensures.result_after) (rw c.in-Good.is at c.read-a.ensures.taped_if)
-    (rw c.in-Good-b.is at c.collect-b.ensures.ks_after) (rw c.in-Good-b.is at c.collect-b.ensures.stated_within) in
-    rw c.refused-in-Atom.ensures (unfounding p _ (rw c.in-Done.is at c.candidate-marked.ensures.x_after)
-    (rw c.in_default-broken.is at c.first_broken-broken.ensures) (rw c.in-Done.is at c.candidate-marked.ensures.marked_to)
-    c.externals.ensures (rw c.in-Atom.is at c.smallest_unfounded-unfounded.ensures))
+pub returns-in-Some-smallest_unfounded : goal.returns-in-Some-smallest_unfounded
+returns-in-Some-smallest_unfounded c =
+    let n = c.in_ok-n.ensures in
+    let m = c.in_ok-m.ensures in
+    let last = c.in_ok-last.ensures in
+    let p = passed (asked c.args.text.now c.args.cand.now) c.requires.text_in_bounds c.read.auto.tape n.result_after n.taped_if m.found_after m.stated_within in
+    rw c.at-in-Some-smallest_unfounded.ensures (unfounding p _ last.x_after c.in_default.ensures last.marked_to c.externals.ensures c.in-Some-smallest_unfounded.ensures)
 
 pub returns : goal.returns
 returns c =
-    let p = passed (asked c.args.text.now c.args.cand.now) {ks = c.collect-b.new.ks} c.requires.text_in_bounds c.read-a.auto.tape
-    (rw c.in-Good.is at c.read-a.ensures.result_after) (rw c.in-Good.is at c.read-a.ensures.taped_if)
-    (rw c.in-Good-b.is at c.collect-b.ensures.ks_after) (rw c.in-Good-b.is at c.collect-b.ensures.stated_within) in
-    upheld p _ (rw c.in-Done.is at c.candidate-marked.ensures.x_after) (rw c.in_default-broken.is at c.first_broken-broken.ensures)
-    (rw c.in-Done.is at c.candidate-marked.ensures.marked_to) c.externals.ensures
-    (rw c.in_default-unfounded.is at c.smallest_unfounded-unfounded.ensures)
+    let n = c.in_ok-n.ensures in
+    let m = c.in_ok-m.ensures in
+    let last = c.in_ok-last.ensures in
+    let p = passed (asked c.args.text.now c.args.cand.now) c.requires.text_in_bounds c.read.auto.tape n.result_after n.taped_if m.found_after m.stated_within in
+    upheld p _ last.x_after c.in_default.ensures last.marked_to c.externals.ensures c.in_default-smallest_unfounded.ensures

@@ -4,4 +4,4 @@ use Rattle.judge_c.proofs.Packing.{fits}
 use Rattle.judge_c.proofs.plan_judge.Goals as goal
 
 pub pack_verdict-requires : goal.pack_verdict-requires
-pack_verdict-requires c = fits (asked c.args.text.now c.args.cand.now) c.judge_short-a.result c.judge_short-a.ensures
+pack_verdict-requires c = fits (asked c.args.text.now c.args.cand.now) c.judge_short.result c.judge_short.ensures

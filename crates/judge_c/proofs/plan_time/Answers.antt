@@ -5,4 +5,4 @@ use Rattle.judge_c.proofs.plan_time.Goals as goal
 
 pub pack_refusal-requires : goal.pack_refusal-requires
 pack_refusal-requires c =
-    omega (arith, time-place c.args.table.now c.args.term _ _ c.in-Refused.ensures, c.ranges)
+    omega (arith, time-place c.args.table.now c.args.term _ _ c.in-Err.ensures, c.ranges)

@@ -1,9 +1,6 @@
--- `run`: the next case begins within the container. Assumes nothing.
-use Rattle.std.proofs.Common.{◌-◌, ◌≤◌, length}
+-- `run`: how far the container's end is. Assumes nothing.
+use Rattle.std.proofs.Common.{◌-◌, length}
 use Rattle.read_vectors.proofs.run.Given as goal
-
-abbrev pub invariant-loop-at : goal.invariant-loop-at
-invariant-loop-at g l = l.at ≤ length l.s
 
 abbrev pub decreases-loop-at : goal.decreases-loop-at
 decreases-loop-at g l = length l.s - l.at

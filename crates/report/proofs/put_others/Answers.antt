@@ -4,10 +4,10 @@ use Rattle.report.proofs.Listing.{nexts_more, nexts_none}
 use Rattle.report.proofs.put_others.Goals as goal
 
 pub put_next-end-requires : goal.put_next-end-requires
-put_next-end-requires c = rw c.wide.ensures (fits-first _ (rw (nexts_more _ _ c.loop-i-test.true) at (rest-fits c.loop-i.invariant c.requires)))
+put_next-end-requires c = rw c.from.ensures (fits-first _ (rw (nexts_more _ _ c.loop-v-test.true) at (rest-fits c.loop-v.invariant c.requires)))
 
-pub loop-i-preserved : goal.loop-i-preserved
-loop-i-preserved c = rest_step c.loop-i.invariant _ _ (rw c.wide.ensures (nexts_more _ _ c.loop-i-test.true)) c.put_next-end.ensures
+pub loop-v-preserved : goal.loop-v-preserved
+loop-v-preserved c = rest_step c.loop-v.invariant _ _ (rw c.from.ensures (nexts_more _ _ c.loop-v-test.true)) c.put_next-end.ensures
 
 pub returns : goal.returns
-returns c = rest-none c.loop-i.invariant (nexts_none _ _ c.loop-i-test.false)
+returns c = rest-none c.loop-v.invariant (nexts_none _ _ c.loop-v-test.false)

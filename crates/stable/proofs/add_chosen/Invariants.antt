@@ -2,8 +2,5 @@
 use Rattle.stable.proofs.Chosen.{Walk}
 use Rattle.stable.proofs.add_chosen.Given as goal
 
-abbrev pub invariant-loop-left : goal.invariant-loop-left
-invariant-loop-left l = Walk l.x l.tape l.at l.initial.found l.found l.p l.left l.added
-
-abbrev pub decreases-loop-left : goal.decreases-loop-left
-decreases-loop-left l = l.left
+abbrev pub invariant-loop-w : goal.invariant-loop-w
+invariant-loop-w l = Walk l.x l.heads l.initial.found l.found l.w-index l.added

@@ -3,8 +3,5 @@ use Rattle.basics.specs.inner.Bitmaps.{is_marked}
 use Rattle.stable.proofs.Breaking.{Passed}
 use Rattle.stable.proofs.first_broken.Given as goal
 
-abbrev pub invariant-loop-left : goal.invariant-loop-left
-invariant-loop-left l = Passed (is_marked l.x) l.tape l.n l.p l.left
-
-abbrev pub decreases-loop-left : goal.decreases-loop-left
-decreases-loop-left l = l.left
+abbrev pub invariant-loop : goal.invariant-loop
+invariant-loop l = Passed (is_marked l.x) l.tape l.n l.p l.counter

@@ -1,9 +1,9 @@
 -- `least`: what is found is in every model, and is a model once a round adds nothing. Assumes nothing.
-use Rattle.stable.proofs.Rounds.{again, less}
+use Rattle.stable.proofs.Rounds.{less, settled}
 use Rattle.stable.proofs.least.Goals as goal
 
-pub loop-t-smaller : goal.loop-t-smaller
-loop-t-smaller c = less c.loop-t.invariant c.loop-t-test.true c.round-t.auto.found c.round-t.ensures
+pub loop-smaller : goal.loop-smaller
+loop-smaller c = less c.loop.invariant c.round.ensures c.round.array_long c.loop-test.true
 
-pub loop-t-preserved : goal.loop-t-preserved
-loop-t-preserved c = again c.loop-t.invariant c.round-t.auto.found c.round-t.ensures
+pub returns : goal.returns
+returns c = settled c.loop.invariant c.round.ensures c.loop-test.false

@@ -3,13 +3,11 @@ use native.Mathlib.Omega.{arith}
 use Rattle.stable.proofs.Rounds.{rule_here, few, visit}
 use Rattle.stable.proofs.round.Goals as goal
 
-pub fire-k-requires-clause-rule_on : goal.fire-k-requires-clause-rule_on
-fire-k-requires-clause-rule_on c =
-    let loop = c.loop-i in
-    rule_here loop.invariant c.requires.readable c.loop-i-test.true
+pub fire-added-requires : goal.fire-added-requires
+fire-added-requires c = record { rule_on = rule_here c.loop-q.invariant c.requires.readable c.loop-q-test.true }
 
-pub overflow_add-t : goal.overflow_add-t
-overflow_add-t c = omega (arith, few c.loop-i.invariant c.fire-k.ensures c.fire-k.auto.found)
+pub overflow_add-added : goal.overflow_add-added
+overflow_add-added c = omega (arith, few c.loop-q.invariant c.fire-added.ensures c.fire-added.array_long)
 
-pub loop-i-preserved : goal.loop-i-preserved
-loop-i-preserved c = visit c.loop-i.invariant c.fire-k.ensures c.fire-k.auto.found c.loop-i-test.true
+pub loop-q-preserved : goal.loop-q-preserved
+loop-q-preserved c = visit c.loop-q.invariant c.fire-added.ensures c.fire-added.array_long c.loop-q-test.true

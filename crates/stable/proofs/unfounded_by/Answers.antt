@@ -5,7 +5,7 @@ use Rattle.stable.proofs.Joining.{answer}
 use Rattle.stable.proofs.unfounded_by.Goals as goal
 
 pub least-requires-clause-blank : goal.least-requires-clause-blank
-least-requires-clause-blank c = blank_zeros
+least-requires-clause-blank g c = blank_zeros
 
 pub returns : goal.returns
-returns c = answer c.list_rules-m.ensures _ _ _ c.least.ensures (as_unfounded c.seek.result) c.seek.ensures
+returns g c = answer c.list_rules-rules.ensures _ _ _ c.least.ensures (as_unfounded c.seek.result) c.seek.ensures

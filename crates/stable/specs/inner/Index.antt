@@ -2,23 +2,13 @@
 use Rattle.std.specs.Prelude.{ℕ, ◌+◌, ◌≤◌, ◌<◌, ◌≡◌, List, length}
 use Rattle.aspif.specs.Statements.{Rule}
 use Rattle.aspif.specs.Grammar.{head_of}
-use Rattle.aspif.specs.inner.Words.{word, list_at, literals_at, premises_at, body_at, behind, lines_of}
-use Rattle.aspif.specs.inner.Kept.{Counted, SmallHead, SmallLiterals, SmallPremise, SmallBody}
+use Rattle.aspif.specs.inner.Words.{word, list_at, body_at, behind, lines_of}
+use Rattle.aspif.specs.inner.Kept.{SmallHead, SmallBody}
 use Rattle.stable.specs.Meaning.{HasRule}
 
 -- the rule whose kind stands at q
 abbrev pub rule_at : List ℕ → ℕ → Rule
 rule_at t q = record { head = head_of (word t (q + 1)) (list_at t (q + 2)); body = body_at t (behind t (q + 2)) }
-
--- the literals of the list whose count stands at p can be looked up
-pub record LiteralsOn (t : List ℕ) (p : ℕ) : Type 0 where
-  pub inside : behind t p ≤ length t
-  pub small : SmallLiterals (literals_at t p)
-
--- the same of literals with weights
-pub record PremisesOn (t : List ℕ) (p : ℕ) : Type 0 where
-  pub inside : behind t p ≤ length t
-  pub small : Counted SmallPremise (premises_at t p)
 
 -- the body whose kind stands at p can be read
 pub record BodyOn (t : List ℕ) (p : ℕ) : Type 0 where
@@ -34,19 +24,18 @@ pub record RuleOn (t : List ℕ) (q : ℕ) : Type 0 where
 abbrev pub rule_words : ℕ
 rule_words = 8
 
--- the first m rules of an index can be read
-pub record Readable (t index : List ℕ) (m : ℕ) : Type 0 where
-  pub long : m ≤ length index
-  pub each : (i : ℕ) → i < m → RuleOn t (word index i)
+-- the rules of an index can be read
+pub record Readable (t index : List ℕ) : Type 0 where
+  pub each : (i : ℕ) → i < length index → RuleOn t (word index i)
 
--- r is one of the first m rules of an index
-pub record InIndex (t index : List ℕ) (m : ℕ) (r : Rule) : Type 0 where
+-- r is one of the rules of an index
+pub record InIndex (t index : List ℕ) (r : Rule) : Type 0 where
   pub i : ℕ
-  pub below : i < m
+  pub below : i < length index
   pub is : rule_at t (word index i) ≡ r
 
--- the first m rules of an index are the rules among n lines
-pub record Indexed (t : List ℕ) (n : ℕ) (index : List ℕ) (m : ℕ) : Type 0 where
-  pub readable : Readable t index m
-  pub sound : (i : ℕ) → i < m → HasRule (lines_of t n) (rule_at t (word index i))
-  pub whole : (r : Rule) → HasRule (lines_of t n) r → InIndex t index m r
+-- the rules of an index are the rules among n lines
+pub record Indexed (t : List ℕ) (n : ℕ) (index : List ℕ) : Type 0 where
+  pub readable : Readable t index
+  pub sound : (i : ℕ) → i < length index → HasRule (lines_of t n) (rule_at t (word index i))
+  pub whole : (r : Rule) → HasRule (lines_of t n) r → InIndex t index r

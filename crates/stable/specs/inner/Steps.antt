@@ -1,5 +1,5 @@
 -- Inner: what the steps of founding do to the bitmap of atoms found; rules by an index. Assumes nothing.
-use Rattle.std.specs.Prelude.{ℕ, ◌+◌, ◌<◌, ◌≡◌, Bool, true, false, not, cond, ◌&&◌, ◌||◌, List, [], ◌∷◌, eqb, leb, set}
+use Rattle.std.specs.Prelude.{ℕ, ◌+◌, ◌<◌, ◌≡◌, Bool, true, false, not, cond, ◌&&◌, ◌||◌, List, [], ◌∷◌, eqb, leb, length, set}
 use Rattle.basics.specs.inner.Bitmaps.{is_marked}
 use Rattle.aspif.specs.Statements.{Literal, positive, negated, Premise, Body, Rule}
 use Rattle.aspif.specs.inner.Words.{word}
@@ -49,26 +49,26 @@ pub record AddedMarks (new : Atoms) (f g : List ℕ) (k : ℕ) : Type 0 where
 abbrev pub fires : Atoms → Atoms → Rule → Atoms
 fires X S r a = body_holds X S r.body && reduct_head X r.head a
 
--- a model of the reduct, by the first m rules of an index
-pub record ClosedBy (X ext : Atoms) (t index : List ℕ) (m : ℕ) (S : Atoms) : Type 0 where
+-- a model of the reduct, by the rules of an index
+pub record ClosedBy (X ext : Atoms) (t index : List ℕ) (S : Atoms) : Type 0 where
   pub facts : (a : ℕ) → ext a ≡ true → X a ≡ true → S a ≡ true
-  pub rules : (i : ℕ) → i < m → Obeyed X S (rule_at t (word index i))
+  pub rules : (i : ℕ) → i < length index → Obeyed X S (rule_at t (word index i))
 
 -- every rule has been visited once
-pub record Round (X : Atoms) (t index : List ℕ) (m : ℕ) (f g : List ℕ) (k : ℕ) : Type 0 where
+pub record Round (X : Atoms) (t index : List ℕ) (f g : List ℕ) (k : ℕ) : Type 0 where
   pub grown : GrownMarks f g k
   pub grows : (a : ℕ) → is_marked f a ≡ true → is_marked g a ≡ true
-  pub sound : (ext S : Atoms) → ClosedBy X ext t index m S → ((a : ℕ) → is_marked f a ≡ true → S a ≡ true) → (a : ℕ) → is_marked g a ≡ true → S a ≡ true
-  pub done : k ≡ 0 → (i : ℕ) → i < m → (a : ℕ) → fires X (is_marked f) (rule_at t (word index i)) a ≡ true → is_marked f a ≡ true
+  pub sound : (ext S : Atoms) → ClosedBy X ext t index S → ((a : ℕ) → is_marked f a ≡ true → S a ≡ true) → (a : ℕ) → is_marked g a ≡ true → S a ≡ true
+  pub done : k ≡ 0 → (i : ℕ) → i < length index → (a : ℕ) → fires X (is_marked f) (rule_at t (word index i)) a ≡ true → is_marked f a ≡ true
 
 -- f holds the external atoms in x
 pub record Both (ext x f : List ℕ) : Type 0 where
   pub now_in : (a : ℕ) → is_marked f a ≡ (is_marked ext a && is_marked x a)
 
--- f is the least model, by the first m rules of an index
-pub record LeastBy (X ext : Atoms) (t index : List ℕ) (m : ℕ) (f : List ℕ) : Type 0 where
-  pub model : ClosedBy X ext t index m (is_marked f)
-  pub below : (S : Atoms) → ClosedBy X ext t index m S → (a : ℕ) → is_marked f a ≡ true → S a ≡ true
+-- f is the least model, by the rules of an index
+pub record LeastBy (X ext : Atoms) (t index : List ℕ) (f : List ℕ) : Type 0 where
+  pub model : ClosedBy X ext t index (is_marked f)
+  pub below : (S : Atoms) → ClosedBy X ext t index S → (a : ℕ) → is_marked f a ≡ true → S a ≡ true
 
 -- the smallest atom of x that is not in f, if there is one
 abbrev pub Sought : Founding → List ℕ → List ℕ → Type 0

@@ -1,17 +1,14 @@
--- Inner: what each case of an answer stands for. Assumes nothing.
-use Rattle.stable.specs.Meaning.{unbroken, broken_at, Founding, founded, unfounded_at}
-use Rattle.stable.specs.declared.Broken.{Broken}
-use Rattle.stable.specs.declared.Unfounded.{Unfounded}
-use Rattle.stable.specs.Meaning as meaning
-use Rattle.stable.specs.declared.Broken.TheVariants as broken
-use Rattle.stable.specs.declared.Unfounded.TheVariants as unfounded
+-- Inner: what each answer of the code stands for. Assumes nothing.
+use Rattle.std.specs.Prelude.{ℕ, Option, Some, None}
+use Rattle.faults.specs.declared.AtomNo.{AtomNo}
+use Rattle.stable.specs.Meaning.{Broken, unbroken, broken_at, Founding, founded, unfounded_at}
 
 -- the first broken rule, by the place of its line
-abbrev pub as_broken : Broken → meaning.Broken
-as_broken broken.None = unbroken
-as_broken (broken.At p) = broken_at p
+abbrev pub as_broken : Option ℕ → Broken
+as_broken None = unbroken
+as_broken (Some p) = broken_at p
 
 -- the smallest unfounded atom
-abbrev pub as_unfounded : Unfounded → Founding
-as_unfounded unfounded.None = founded
-as_unfounded (unfounded.Atom a) = unfounded_at a.0
+abbrev pub as_unfounded : Option AtomNo → Founding
+as_unfounded None = founded
+as_unfounded (Some a) = unfounded_at a.0

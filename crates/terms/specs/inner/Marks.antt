@@ -2,6 +2,7 @@
 use Rattle.std.specs.Prelude.{ℕ, ◌<◌, ◌≡◌, Bool, ◌||◌, List, map, length}
 use Rattle.basics.specs.Lists.{among}
 use Rattle.basics.specs.inner.Bitmaps.{is_marked}
+use Rattle.diffs.specs.declared.Difference.{Difference}
 use Rattle.terms.specs.Terms.{Stated}
 
 -- x has a place for each number below size, and marks those that f holds of
@@ -28,3 +29,12 @@ ys_in ds = map (λ (s : Stated). s.says.y) ds
 -- n is a name: it stands as x or y
 abbrev pub naming : List Stated → ℕ → Bool
 naming ds n = among n (xs_in ds) || among n (ys_in ds)
+
+-- ---- of a slice of differences
+
+-- the numbers of their x and of their y
+abbrev pub xs_of : List Difference → List ℕ
+xs_of ds = map (λ (d : Difference). d.x.0) ds
+
+abbrev pub ys_of : List Difference → List ℕ
+ys_of ds = map (λ (d : Difference). d.y.0) ds

@@ -1,6 +1,7 @@
 -- Inner: what the code's tables stand for. A table has a place for each number: 0 where no line defined it yet, or q + 1 where the
--- statement at q of the tape, its kind there, did. Assumes nothing.
-use Rattle.std.specs.Prelude.{ℕ, zero, suc, ◌<◌, ◌≡◌, List, [], ◌∷◌, ◌++◌, Bool, true, false, ◌&&◌, not, length, get_or, eqb, ℤ, pos, negsuc}
+-- statement at q of the tape, its kind there, did; that of atoms says whether a line stated it. Assumes nothing.
+use Rattle.std.specs.Prelude.{ℕ, zero, suc, ◌<◌, ◌≡◌, List, [], ◌∷◌, ◌++◌, Bool, true, false, ◌&&◌, length, get_or, eqb, ℤ, pos, negsuc, is_some, Some, None}
+use Rattle.std.specs.Prelude as code
 use Rattle.std.proofs.Math.Option.{Option, some, none}
 use Rattle.basics.specs.Bools.{pick}
 use Rattle.faults.specs.Limits.{largest_number}
@@ -10,9 +11,12 @@ use Rattle.aspif.specs.Statements.{Term, num, str, comp, Element, elem, Theory, 
 use Rattle.aspif.specs.inner.Words.{number_kind, string_kind, compound_kind, element_kind, atom_kind, guarded_kind, word, says_at}
 use Rattle.aspif.specs.inner.Kept.{FromTo}
 use Rattle.diffs.specs.Diff.{Diff}
+use Rattle.diffs.specs.inner.Answer.{diff_at}
+use Rattle.diffs.specs.declared.Difference.{Difference}
 use Rattle.terms.specs.Terms.{Env, is_minus, Stated, difference_of, stated_by, more}
 use Rattle.terms.specs.Reasons.{reason_of, answered, differences}
 use Rattle.terms.specs.declared.lines.Role.{Role}
+use Rattle.terms.specs.declared.tables.Known.{Known}
 use Rattle.terms.specs.declared.lines.Role.TheVariants as role
 
 -- what the statements of a kind are for
@@ -31,11 +35,10 @@ is_term (pos n) = true
 is_term (negsuc n) = false
 
 -- a compound of `-` with that many arguments
-abbrev pub minus_of : (ℕ → Option Term) → (count : ℕ) → Option Term → Bool
-minus_of look n none = false
-minus_of look n (some (num k)) = false
-minus_of look n (some (str s)) = false
-minus_of look n (some (comp t us)) = eqb (length us) n && is_minus look t
+abbrev pub minus_of : (ℕ → Option Term) → (count : ℕ) → Term → Bool
+minus_of look n (num k) = false
+minus_of look n (str s) = false
+minus_of look n (comp t us) = eqb (length us) n && is_minus look t
 
 -- ---- what an entry and a table mean
 
@@ -53,32 +56,52 @@ element_of (some (collects v e)) = e
 element_of (some (states a p vs g)) = elem [] []
 element_of none = elem [] []
 
--- the term of an entry
-unfoldable pub term_on : List ℕ → (entry : ℕ) → Option Term
-term_on t zero = none
-term_on t (suc q) = some (term_of (theory_in (says_at t q)))
+-- the place of the statement that an entry stands for
+abbrev pub place_of : (entry : ℕ) → code.Option ℕ
+place_of zero = None
+place_of (suc q) = Some q
 
--- the element of an entry
-unfoldable pub element_on : List ℕ → (entry : ℕ) → Option Element
-element_on t zero = none
-element_on t (suc q) = some (element_of (theory_in (says_at t q)))
+-- the place of the statement that defines a number
+abbrev pub place_in : (table : List ℕ) → ℕ → code.Option ℕ
+place_in table u = place_of (word table u)
+
+-- the term of the statement at q
+abbrev pub term_at : List ℕ → (q : ℕ) → Term
+term_at t q = term_of (theory_in (says_at t q))
+
+-- that of the statement at a place, if there is one
+unfoldable pub term_on : List ℕ → code.Option ℕ → Option Term
+term_on t None = none
+term_on t (Some q) = some (term_at t q)
+
+-- the element of the statement at a place, if there is one
+unfoldable pub element_on : List ℕ → code.Option ℕ → Option Element
+element_on t None = none
+element_on t (Some q) = some (element_of (theory_in (says_at t q)))
 
 -- what a table of terms says of a number
 unfoldable pub look_in : List ℕ → (table : List ℕ) → ℕ → Option Term
-look_in t terms u = term_on t (word terms u)
+look_in t terms u = term_on t (place_in terms u)
 
 -- what a table of elements says of a number
 unfoldable pub elements_in : List ℕ → (table : List ℕ) → ℕ → Option Element
-elements_in t elements v = element_on t (word elements v)
+elements_in t elements v = element_on t (place_in elements v)
 
--- a number is entered in a table, of terms, of elements or of atoms
+-- the terms and the elements that the code knows
+abbrev pub terms_of : Known → ℕ → Option Term
+terms_of k = look_in k.tape.now k.terms.now
+
+abbrev pub elements_of : Known → ℕ → Option Element
+elements_of k = elements_in k.tape.now k.elements.now
+
+-- a number is entered in a table, of terms or of elements
 unfoldable pub entered : (table : List ℕ) → ℕ → Bool
-entered table u = not (eqb (word table u) 0)
+entered table u = is_some (place_in table u)
 
 -- what three tables say
-unfoldable pub env_of : List ℕ → (terms elements seen : List ℕ) → Env
+unfoldable pub env_of : List ℕ → (terms elements : List ℕ) → (seen : List Bool) → Env
 env_of t terms elements seen =
-    record { terms = look_in t terms; elements = elements_in t elements; taken = entered seen }
+    record { terms = look_in t terms; elements = elements_in t elements; taken = λ a. get_or seen a false }
 
 -- the difference that a theory atom states
 abbrev pub difference_in : (ℕ → Option Term) → (ℕ → Option Element) → Option Theory → Option Diff
@@ -90,10 +113,6 @@ difference_in look els none = none
 -- that of the statement at q
 unfoldable pub stated_on : List ℕ → (terms elements : List ℕ) → ℕ → Option Diff
 stated_on t terms elements q = difference_in (look_in t terms) (elements_in t elements) (theory_in (says_at t q))
-
--- a table of which nothing is known yet
-pub record AllZero (l : List ℕ) : Type 0 where
-  pub zero_at : (i : ℕ) → word l i ≡ 0
 
 -- ---- the walk over the lines, with what was defined on the way
 
@@ -119,11 +138,11 @@ walk text env (l ∷ ls) =
 abbrev pub States : List Line → List Stated → Type 0
 States ls ds = (text : List ℕ) → differences text ls ≡ got ds
 
--- ---- the differences that four slices hold
+-- ---- the differences that two slices hold
 
 -- the difference in the places i of them
-abbrev pub held_at : (atoms xs ys : List ℕ) → List ℤ → ℕ → Stated
-held_at atoms xs ys ks i = record { atom = word atoms i; says = record { x = word xs i; y = word ys i; k = get_or ks i (pos 0) } }
+abbrev pub held_at : (atoms : List ℕ) → List Difference → ℕ → Stated
+held_at atoms ds i = record { atom = word atoms i; says = diff_at ds i }
 
 -- f 0, .., f (n - 1)
 unfoldable pub tabulated : {A : Type 0} → ℕ → (ℕ → A) → List A

@@ -1,12 +1,10 @@
--- `timetable::atoms_within` meets its contract: whether the atoms that are left are within the bounds is the whole answer.
-use Prim.Native.Nat.{◌+◌, ◌*◌, ◌≤◌}
+-- `atoms_within`: whether the atoms that are left are within the bounds is the whole answer.
 use mathlib.Core.Path.{◌≡◌}
-use lib.ListN.{length}
+use mathlib.Core.List.{map}
+use lib.ListN.{drop}
+use Rattle.timetable.specs.inner.Given.{atom_of}
 use Rattle.timetable.proofs.Reading.{atoms_left}
 use Rattle.timetable.proofs.atoms_within.Given as goal
 
-abbrev pub invariant-loop-left : goal.invariant-loop-left
-invariant-loop-left l = (atoms_left l.table l.low l.left l.p ≡ atoms_left l.table 1 l.n l.from) × (l.p + 4 * l.left ≤ length l.table)
-
-abbrev pub decreases-loop-left : goal.decreases-loop-left
-decreases-loop-left l = l.left
+abbrev pub invariant-loop-atom : goal.invariant-loop-atom
+invariant-loop-atom l = atoms_left l.low (map atom_of (drop l.atom-index l.atoms)) ≡ atoms_left 1 (map atom_of l.atoms)

@@ -1,24 +1,18 @@
--- `timetable::count_marked` meets its contract: what is counted and what is still marked from i on are together what was to be counted.
+-- `count_marked`: as many are marked as places hold 1.
 use borrow.Author.Rules.{rules}
-use mathlib.Core.Path.{ap}
-use native.Mathlib.Omega.{arith}
-use lib.ListN.{length}
-use Rattle.timetable.proofs.Marks.{few-marked, marked-none, marked_pass, marked-take}
+use borrow.Author.Tests.{tests}
+use mathlib.Core.Path.{◌∙◌}
+use lib.Dec.{eqb}
+use Rattle.std.proofs.lemmas.Iterator.{YieldsList-from_slice}
+use Rattle.std.proofs.lemmas.Iterator.Adapters.{YieldsList-from_skip}
+use Rattle.std.proofs.lemmas.Iterator.Consumers.{YieldsList-from_filter, count_from_yields_List}
+use Rattle.basics.specs.inner.Bitmaps.{marked_from}
+use Rattle.timetable.proofs.Marks.{count-marks}
 use Rattle.timetable.proofs.count_marked.Goals as goal
 
-pub loop-i-preserved-then-b-ne1 : goal.loop-i-preserved-then-b-ne1
-loop-i-preserved-then-b-ne1 c = (omega (arith, ap length (marked_pass c.args.map.now c.loop-i.i c.loop-i-test.true c.if-b-ne1.true)), search rules)
-
-pub loop-i-preserved : goal.loop-i-preserved
-loop-i-preserved c = (omega (arith, ap length (marked-take c.args.map.now c.loop-i.i c.loop-i-test.true c.if-b-ne1.false)), search rules)
-
 pub returns-clause-value : goal.returns-clause-value
+unfolding marked_from
 returns-clause-value c =
-    let map = c.args.map.now in
-    let e = ap length (marked-none map c.loop-i.i c.loop-i-test.false) in
-    omega arith
-
-pub returns-clause-upper_bound : goal.returns-clause-upper_bound
-returns-clause-upper_bound c =
-    let map = c.args.map.now in
-    omega (arith, few-marked map c.args.from)
+    count_from_yields_List c.filter.result c.count.result c.count.ensures.ran
+    (YieldsList-from_filter _ (λ b. eqb b 1) (YieldsList-from_skip c.args.from (YieldsList-from_slice c.args.map.now cc) cc) c.filter.ensures.closure (λ x b q k. search (rules, tests)))
+    ∙ count-marks _ _

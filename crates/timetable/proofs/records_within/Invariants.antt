@@ -1,12 +1,10 @@
--- `timetable::records_within` meets its contract: whether the records that are left are within the bounds is the whole answer.
-use Prim.Native.Nat.{◌+◌, ◌*◌, ◌≤◌}
+-- `records_within`: whether the records that are left are within the bounds is the whole answer.
 use mathlib.Core.Path.{◌≡◌}
-use lib.ListN.{length}
+use mathlib.Core.List.{map}
+use lib.ListN.{drop}
+use Rattle.timetable.specs.inner.Given.{record_of}
 use Rattle.timetable.proofs.Reading.{records_left}
 use Rattle.timetable.proofs.records_within.Given as goal
 
-abbrev pub invariant-loop-left : goal.invariant-loop-left
-invariant-loop-left l = (records_left l.table l.low l.left l.p ≡ records_left l.table 0 l.n l.from) × (l.p + 8 * l.left ≤ length l.table)
-
-abbrev pub decreases-loop-left : goal.decreases-loop-left
-decreases-loop-left l = l.left
+abbrev pub invariant-loop-record : goal.invariant-loop-record
+invariant-loop-record l = records_left l.low (map record_of (drop l.record-index l.records)) ≡ records_left 0 (map record_of l.records)

@@ -1,13 +1,10 @@
--- `timetable::time_among` meets its contract: the time among the records that are left is the whole answer.
-use Prim.Native.Nat.{◌+◌, ◌*◌, ◌≤◌}
+-- `time_among`: the time among the records that are left is the whole answer.
 use mathlib.Core.Path.{◌≡◌}
-use lib.ListN.{length}
-use Rattle.timetable.specs.Table.{records_at}
+use mathlib.Core.List.{map}
+use lib.ListN.{drop}
 use Rattle.timetable.specs.Times.{time_among}
+use Rattle.timetable.specs.inner.Given.{record_of}
 use Rattle.timetable.proofs.time_among.Given as goal
 
-abbrev pub invariant-loop-left : goal.invariant-loop-left
-invariant-loop-left l = (time_among l.name.0 (records_at l.table l.left l.p) ≡ time_among l.name.0 (records_at l.table l.n l.from)) × (l.p + 8 * l.left ≤ length l.table)
-
-abbrev pub decreases-loop-left : goal.decreases-loop-left
-decreases-loop-left l = l.left
+abbrev pub invariant-loop-record : goal.invariant-loop-record
+invariant-loop-record l = time_among l.name.0 (map record_of (drop l.record-index l.records)) ≡ time_among l.name.0 (map record_of l.records)

@@ -1,7 +1,8 @@
--- `timetable::word_at` meets its contract: each of the four bytes is read and widened, and their sum fits.
+-- `word_at`: the four bytes are the number's.
+use native.Mathlib.Omega.{arith}
 use Rattle.timetable.specs.Word.{word_at}
 use Rattle.timetable.proofs.word_at.Goals as goal
 
 pub returns : goal.returns
 unfolding word_at
-returns c = rw (c.wide-a.ensures.0, c.wide-b.ensures.0, c.wide-c.ensures.0, c.wide-d.ensures.0)
+returns c = let e = c.from_le_bytes.ensures in omega (arith, c.from_le_bytes.ensures)

@@ -1,11 +1,9 @@
 -- `timetable::write` meets its contract: records and atoms are each stored where the part before them ends, and the header last.
 -- The longest table fits the room, so the parts begin and end within it.
 use Prim.Native.Nat.{◌+◌, ◌-◌}
-use mathlib.Core.Path.{◌≡◌, ap, ◌∙◌}
 use mathlib.Core.List.{◌++◌}
 use native.Mathlib.Omega.{arith}
 use lib.ListN.{length, take, drop}
-use lib.Seq.{length-sets}
 use Rattle.basics.specs.inner.Bitmaps.{marked_from}
 use Rattle.timetable.specs.Table.{records_of, record_bytes, atom_bytes, header_length}
 use Rattle.timetable.specs.inner.Given.{time_at}

@@ -1,6 +1,5 @@
--- `timetable::write_atoms` meets its contract: what is written, with the atoms still to come, is the room that is promised.
+-- `write_atoms`: what is written, with the atoms still to come, is the room that is promised.
 -- Four bytes are written for each atom that is behind.
-use borrow.Author.Rules.{rules}
 use Prim.Native.Nat.{◌*◌}
 use mathlib.Core.Path.{◌≡◌, ap, ◌∙◌}
 use native.Mathlib.Omega.{arith}
@@ -9,39 +8,32 @@ use Rattle.basics.specs.inner.Bitmaps.{marked_from}
 use Rattle.timetable.proofs.Marks.{few-marked, marked-none, marked_pass, marked-take}
 use Rattle.timetable.proofs.Writing.{with_atoms, atoms-none, atoms_pass, atoms-take}
 use Rattle.timetable.proofs.write_atoms.Goals as goal
+use Rattle.timetable.proofs.write_atoms.Goals.{then-atoms-a-eq1, else-atoms-a-eq1}
 
-pub loop-i-preserved-then-atoms-here-ne1 : goal.loop-i-preserved-then-atoms-here-ne1
-loop-i-preserved-then-atoms-here-ne1 c =
-    let here = c.loop-i-test.true in
-    let other = c.if-atoms-here-ne1.true in (
-      atoms_pass _ _ _ _ here other ∙ c.loop-i.invariant.0,
-      omega (arith, ap length (marked_pass c.args.atoms.now c.loop-i.i here other)),
-      search rules,
-    )
+pub put_word-requires : goal.put_word-requires
+put_word-requires c =
+    omega (arith, c.requires.atoms_in_bounds, c.loop-a.auto.part, c.loop-a.invariant.1, ap length (marked-take c.args.atoms.now c.loop-a.a c.loop-a-test.true c.if-atoms-a-eq1.true))
 
-pub put_atom-requires : goal.put_atom-requires
-put_atom-requires c = omega (arith, ap length (marked-take c.args.atoms.now c.loop-i.i c.loop-i-test.true c.if-atoms-here-ne1.false))
-
-pub loop-i-preserved : goal.loop-i-preserved
-loop-i-preserved c =
-    let here = c.loop-i-test.true in
-    let marked = c.if-atoms-here-ne1.false in
-    let put = c.put_atom in (
-      atoms-take _ _ _ _ _ here marked put.ensures ∙ c.loop-i.invariant.0,
-      omega (arith, c.put_atom.auto.room, ap length (marked-take c.args.atoms.now c.loop-i.i here marked)),
-      omega (arith, c.put_atom.auto.room),
-    )
+pub loop-a-preserved : goal.loop-a-preserved
+loop-a-preserved c =
+    let atoms = c.args.atoms.now in
+    let l = c.loop-a in
+    let here = c.loop-a-test.true in
+    elim c.if-atoms-a-eq1.branch [
+      | then-atoms-a-eq1 w ↦
+          let marked = w.if-atoms-a-eq1.true in
+          rw (w.part-is, w.at-is) (atoms-take _ _ _ _ _ here marked w.put_word.ensures ∙ l.invariant.0, omega (arith, ap length (marked-take atoms l.a here marked), l.invariant.1))
+      | else-atoms-a-eq1 w ↦
+          let other = w.if-atoms-a-eq1.false in
+          rw (w.part-is, w.at-is) (atoms_pass _ _ _ _ here other ∙ l.invariant.0, omega (arith, ap length (marked_pass atoms l.a here other), l.invariant.1))
+    ]
 
 pub returns-clause-part_after : goal.returns-clause-part_after
 unfolding with_atoms
-returns-clause-part_after c =
-    let none = c.loop-i-test.false in
-    atoms-none _ _ _ _ none ∙ c.loop-i.invariant.0
+returns-clause-part_after c = atoms-none _ c.loop-a.at _ _ c.loop-a-test.false ∙ c.loop-a.invariant.0
 
 pub returns-clause-value : goal.returns-clause-value
-unfolding with_atoms
 returns-clause-value c =
     let atoms = c.args.atoms.now in
-    let none = c.loop-i-test.false in
-    let all : c.loop-i.at ≡ 4 * length (marked_from 1 atoms) = omega (arith, ap length (marked-none atoms c.loop-i.i none)) in
+    let all : c.loop-a.at ≡ 4 * length (marked_from 1 atoms) = omega (arith, c.loop-a.invariant.1, ap length (marked-none atoms c.loop-a.a c.loop-a-test.false)) in
     (all, omega (arith, few-marked atoms 1))

@@ -3,7 +3,8 @@ use Rattle.std.specs.Prelude.{ℕ, ◌≤◌, ◌≡◌, true, List, ◌++◌, l
 use Rattle.basics.specs.inner.Bitmaps.{is_marked, marked_from}
 use Rattle.faults.specs.Limits.{table_room}
 use Rattle.faults.specs.inner.Places.{atom_places, term_places}
-use Rattle.timetable.specs.Table.{Content, records_of, latest}
+use Rattle.timetable.specs.Word.{word_at}
+use Rattle.timetable.specs.Table.{Record, Content, records_of, latest}
 
 -- the time of a term number; 0 past the end
 abbrev pub time_at : List ℕ → ℕ → ℕ
@@ -16,6 +17,14 @@ given names times atoms =
       records = records_of (marked_from 0 names) (time_at times);
       atoms = marked_from 1 atoms;
     }
+
+-- the record that eight bytes are
+abbrev pub record_of : List ℕ → Record
+record_of bytes = record { name = word_at bytes 0; time = word_at bytes 4 }
+
+-- the atom that four bytes are
+abbrev pub atom_of : List ℕ → ℕ
+atom_of bytes = word_at bytes 0
 
 -- no more places than term numbers and atoms, a time for each place of a name, and a room for the longest table
 pub record WriterRooms (names times atoms room : List ℕ) : Type 0 where

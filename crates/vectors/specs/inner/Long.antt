@@ -1,5 +1,5 @@
 -- Inner: a text that a comment makes as long as is asked. Assumes nothing.
-use Rattle.std.specs.Prelude.{ℕ, ◌-◌, List, [], ◌∷◌}
+use Rattle.std.specs.Prelude.{ℕ, ◌-◌, List, [], ◌∷◌, length}
 use Rattle.std.proofs.lemmas.List.Edits.{sets}
 
 -- the first line, and the comment's type and the space after it
@@ -10,6 +10,6 @@ opening = 97 ∷ 115 ∷ 112 ∷ 32 ∷ 49 ∷ 32 ∷ 48 ∷ 32 ∷ 48 ∷ 10 �
 abbrev pub closing : List ℕ
 closing = 10 ∷ 48 ∷ 10 ∷ []
 
--- a text of n bytes, at the start of others: what stands between its ends is the comment
-abbrev pub commented : List ℕ → (n : ℕ) → List ℕ
-commented text n = sets (sets text 0 opening) (n - 3) closing
+-- a text with both its ends so: what stands between them is the comment
+abbrev pub commented : List ℕ → List ℕ
+commented text = sets (sets text 0 opening) (length text - 3) closing

@@ -1,13 +1,9 @@
--- `fields::Cursor::bytes` meets its contract. Assumes nothing.
-use Prim.Native.Nat.{◌-◌}
+-- `fields::Cursor::bytes` meets its contract. The invariant: the bytes from `b` on are read from `c` on. Assumes nothing.
 use mathlib.Core.Path.{◌≡◌}
-use lib.ListN.{length, drop}
 use mathlib.Core.Bool.{true}
+use lib.ListN.{drop}
 use Rattle.fields.specs.Fields.{all_positive, bytes}
 use Rattle.fields.proofs.Cursor.bytes.Given as goal
 
-abbrev pub invariant-loop-i : goal.invariant-loop-i
-invariant-loop-i l = (bytes (drop l.i l.word) l.s l.c.at ≡ bytes l.word l.s l.initial.c.at) × (all_positive (drop l.i l.word) ≡ true)
-
-abbrev pub decreases-loop-i : goal.decreases-loop-i
-decreases-loop-i l = length l.word - l.i
+abbrev pub invariant-loop-b : goal.invariant-loop-b
+invariant-loop-b l = (bytes (drop l.b-index l.word) l.s l.c.at ≡ bytes l.word l.s l.initial.c.at) × (all_positive (drop l.b-index l.word) ≡ true)

@@ -1,19 +1,15 @@
 -- `fields::digits::is_natural` meets its contract. Assumes nothing.
-use mathlib.Core.Path.{sym, ◌∙◌}
-use Rattle.fields.proofs.Naturals.{natural_undigit, natural_led, natural_unled, natural-one}
+use mathlib.Core.Path.{◌∙◌}
+use borrow.Author.Tests.{le-ltb, eq-eqb}
+use Rattle.fields.proofs.Naturals.{natural_unled, natural-one}
 use Rattle.fields.proofs.digits.is_natural.Goals as goal
-use Rattle.fields.proofs.digits.is_natural.Goals.{then-second-end+else-peek-eq-ZERO_DIGIT, else-second-end}
+use Rattle.fields.proofs.digits.is_natural.Goals.{then-at-end+then-end-at, then-at-end+else-end-at, else-at-end}
 
-pub returns-then-end-at : goal.returns-then-end-at
-returns-then-end-at c = sym (natural_undigit _ _ _ c.requires c.if-end-at.true)
-
-pub returns-then-peek-eq-ZERO_DIGIT : goal.returns-then-peek-eq-ZERO_DIGIT
-returns-then-peek-eq-ZERO_DIGIT c = sym (natural_led _ _ _ c.requires c.if-end-at.false c.if-second-end.true
-    (sym c.peek.ensures ∙ c.if-peek-eq-ZERO_DIGIT.true))
-
-pub returns : goal.returns
-returns c =
-    c.ends_field.ensures ∙ elim c.if-second-end.branch [
-      | then-second-end+else-peek-eq-ZERO_DIGIT w ↦ natural_unled _ _ _ c.requires c.if-end-at.false (λ z. w.if-peek-eq-ZERO_DIGIT.false (w.peek.ensures ∙ z))
-      | else-second-end w ↦ natural-one _ _ _ c.requires c.if-end-at.false w.if-second-end.false
+pub returns-then-peek-ne-ZERO_DIGIT : goal.returns-then-peek-ne-ZERO_DIGIT
+returns-then-peek-ne-ZERO_DIGIT c =
+    c.ends_field.ensures ∙ elim c.if-at-end.branch [
+      | then-at-end+then-end-at w ↦ natural-one _ _ _ c.requires w.if-at-end.true w.if-end-at.true
+      | then-at-end+else-end-at w ↦
+          natural_unled _ _ _ c.requires w.if-at-end.true (λ z. let e = rw (eq-eqb _ _ (w.peek.ensures ∙ z)) at w.value-is in cc)
+      | else-at-end w ↦ let e = rw (le-ltb _ _ w.if-at-end.false) at w.value-is in cc
     ]

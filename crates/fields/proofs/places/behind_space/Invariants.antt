@@ -1,12 +1,7 @@
 -- `behind_space`: the place behind the first space, reckoned from `i`, is the place that is asked.
-use Prim.Native.Nat.{◌-◌}
 use mathlib.Core.Path.{◌≡◌}
-use lib.ListN.{length}
 use Rattle.fields.specs.Fields.{behind_space}
 use Rattle.fields.proofs.places.behind_space.Given as goal
 
 abbrev pub invariant-loop-i : goal.invariant-loop-i
 invariant-loop-i l = behind_space l.s l.i ≡ behind_space l.s l.at
-
-abbrev pub decreases-loop-i : goal.decreases-loop-i
-decreases-loop-i l = length l.s - l.i

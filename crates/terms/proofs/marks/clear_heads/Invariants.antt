@@ -2,8 +2,5 @@
 use Rattle.terms.proofs.Marking.{Heading}
 use Rattle.terms.proofs.marks.clear_heads.Given as goal
 
-abbrev pub invariant-loop-left : goal.invariant-loop-left
-invariant-loop-left l = Heading l.tape l.n l.initial.bits l.bits l.p l.left
-
-abbrev pub decreases-loop-left : goal.decreases-loop-left
-decreases-loop-left l = l.left
+abbrev pub invariant-loop : goal.invariant-loop
+invariant-loop l = Heading l.tape l.n l.initial.bits l.bits l.p l.counter

@@ -2,8 +2,8 @@
 use Rattle.terms.proofs.Marking.{list-next, list_end}
 use Rattle.terms.proofs.marks.clear_list.Goals as goal
 
-pub loop-left-preserved : goal.loop-left-preserved
-loop-left-preserved c = list-next _ _ c.loop-left-test.true c.atom_at-a.ensures c.mark.ensures c.loop-left.invariant
+pub loop-i-preserved : goal.loop-i-preserved
+loop-i-preserved c = list-next _ _ c.loop-i-test.true c.atom_at-a.ensures c.mark.ensures c.loop-i.invariant
 
 pub returns : goal.returns
-returns c = list_end c.loop-left-test.false c.loop-left.invariant
+returns c = list_end c.loop-i-test.false c.loop-i.invariant

@@ -2,8 +2,5 @@
 use Rattle.terms.proofs.Marking.{Listing}
 use Rattle.terms.proofs.marks.clear_list.Given as goal
 
-abbrev pub invariant-loop-left : goal.invariant-loop-left
-invariant-loop-left l = Listing l.tape l.from l.n l.initial.bits l.bits l.q l.left
-
-abbrev pub decreases-loop-left : goal.decreases-loop-left
-decreases-loop-left l = l.left
+abbrev pub invariant-loop-i : goal.invariant-loop-i
+invariant-loop-i l = Listing l.tape l.from l.n l.initial.bits l.bits l.i

@@ -2,5 +2,5 @@
 use Rattle.terms.proofs.Marking.{marking_next}
 use Rattle.terms.proofs.marks.mark_all.Goals as goal
 
-pub loop-i-preserved : goal.loop-i-preserved
-loop-i-preserved c = marking_next _ c.loop-i-test.true c.requires c.mark.ensures c.loop-i.invariant
+pub loop-n-preserved : goal.loop-n-preserved
+loop-n-preserved c = marking_next _ c.loop-n-test.true c.mark.ensures c.loop-n.invariant

@@ -1,2 +1,0 @@
--- General laws.
-pub mod Ends

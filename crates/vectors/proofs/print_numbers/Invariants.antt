@@ -1,9 +1,0 @@
--- `print_numbers`: each of the bytes. Assumes nothing.
-use Rattle.std.proofs.Common.{◌-◌, ◌≤◌, length}
-use Rattle.vectors.proofs.print_numbers.Given as goal
-
-abbrev pub invariant-loop-i : goal.invariant-loop-i
-invariant-loop-i g l = l.i ≤ length l.s
-
-abbrev pub decreases-loop-i : goal.decreases-loop-i
-decreases-loop-i g l = length l.s - l.i
