@@ -1,7 +1,6 @@
 -- Laws of the candidate's grammar: what each way through the code gives, and what a candidate that was read or refused is. Assumes nothing.
 use Prim.Native.Nat.{ℕ, zero, suc, ◌+◌, ◌-◌, ◌*◌, ◌≤◌, ◌<◌}
 use mathlib.Core.Path.{◌≡◌, refl, sym, ◌∙◌}
-use mathlib.Core.Logic.{inr}
 use mathlib.Core.List.{List, [], ◌∷◌, ◌++◌, append_assoc}
 use mathlib.Core.Bool.{Bool, true, false, ◌&&◌}
 use native.Mathlib.Omega.{arith}
@@ -213,7 +212,7 @@ module _ {s x : List ℕ} {low at k : ℕ} {whole : Reading (List ℕ)} (h : Mar
         places = simp length-set h.places;
         small = bounds.1;
         none = λ a g. rw (get_or-set_other x v a 1 0 (λ d. omega arith), h.clear a (omega (arith, bounds)));
-        marked = inr (rw (get_or-set_same x v 1 0 (omega (arith, h.places, bounds))));
+        marked = λ z. rw (get_or-set_same x v 1 0 (omega (arith, h.places, bounds)));
       }
 
       pub marking_more : {l : ℕ} → found tt l ≡ byte 32 s m → Marking s (set x v 1) v l (k + 1) whole

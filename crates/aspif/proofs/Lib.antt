@@ -10,3 +10,4 @@ pub mod Turns
 pub mod Walking
 pub mod Before
 pub mod Ends
+pub mod Places

@@ -11,7 +11,7 @@ use lib.ListN.{length, get_or, length-append, length-map, get_or-eq_default}
 use Rattle.basics.specs.Bools.{pick}
 use Rattle.aspif.specs.Statements.{Head, head_atoms, normal, weights, rule}
 use Rattle.aspif.specs.Grammar.{literal_of, premise_of, head_of}
-use Rattle.aspif.specs.inner.Words.{rule_kind, words, words_of, normal_kind, head_words, literal_word, premise_word, body_words, word, words_from, list_at, behind, literals_at, premises_at, body_at, says_at, line_at, after, lines_from}
+use Rattle.aspif.specs.inner.Words.{rule_kind, words, words_of, normal_kind, head_words, literal_word, premise_word, body_words, word, words_from, list_at, behind, literals_at, premises_at, body_at, says_at, line_at, after, lines_from, place_of, places_from}
 use Rattle.aspif.specs.inner.Kept.{AllSmall, Stand, LineOn, Ahead}
 use Rattle.aspif.proofs.Coding.{kind_of, head-words}
 
@@ -64,6 +64,34 @@ module _ (t : List ℕ) (p n : ℕ) (h : 0 < n) where
       go : (n : ℕ) → 0 < n → lines_from t p n ≡ line_at t p ∷ lines_from t (after t p) (n - 1)
       go zero h = absurd (omega arith)
       go (suc k) h = let d : suc k - 1 ≡ k = omega arith in rw d
+
+  pub places_next : places_from t p n ≡ p ∷ places_from t (after t p) (n - 1)
+  unfolding places_from
+  places_next = go n h
+    where
+      go : (n : ℕ) → 0 < n → places_from t p n ≡ p ∷ places_from t (after t p) (n - 1)
+      go zero h = absurd (omega arith)
+      go (suc k) h = let d : suc k - 1 ≡ k = omega arith in rw d
+
+pub places-length : (t : List ℕ) (p n : ℕ) → length (places_from t p n) ≡ n
+unfolding places_from
+places-length t p zero = refl
+places-length t p (suc n) = ap suc (places-length t (after t p) n)
+
+pub places_none : (t : List ℕ) (p n : ℕ) → n ≡ 0 → places_from t p n ≡ []
+unfolding places_from
+places_none t p n e = rw e
+
+pub place_next : (t : List ℕ) (i : ℕ) → place_of t (i + 1) ≡ after t (place_of t i)
+place_next t i = let d : i + 1 ≡ suc i = omega arith in rw d
+
+pub place_in : (t : List ℕ) (k n i d : ℕ) → i < n → get_or (places_from t (place_of t k) n) i d ≡ place_of t (k + i)
+unfolding places_from
+place_in t k zero i d h = absurd (omega arith)
+place_in t k (suc n) zero d h = let e : k + 0 ≡ k = omega arith in rw e
+place_in t k (suc n) (suc i) d h =
+    let e : k + suc i ≡ suc k + i = omega arith in
+    rw e (place_in t (suc k) n i d (omega arith))
 
 -- lines that stand on the tape keep to their bounds
 pub ahead_small : (t : List ℕ) (p n : ℕ) → Ahead t p n → AllSmall (lines_from t p n)

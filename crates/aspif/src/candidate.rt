@@ -6,11 +6,21 @@ ghost use Rattle.fields.specs.inner.Values.{as_atom, as_passed};
 ghost use Rattle.aspif.specs.Grammar.{answer};
 ghost use Rattle.faults.specs.Limits.{last_atom};
 ghost use Rattle.aspif.specs.Candidate.{atom_above, ending, ascending, candidate};
-ghost use Rattle.aspif.specs.inner.Bitmap.{Blank};
+ghost use Rattle.aspif.specs.inner.Bitmap.{Blank, EndsAt};
+ghost use Rattle.aspif.specs.inner.Once.{ends_once};
 ghost use Rattle.aspif.specs.inner.Values.{as_marked, MarkedTo};
 
 use faults::{ATOM_PLACES, AtomNo, Kind, LAST_ATOM, Refusal};
 use fields::{Cursor, Field, SPACE};
+
+// The atoms of a candidate: their marks, and the last of them, 0 where there is none.
+// Kept: a mark is the byte 1; `marks` and `is_marked` of the specs, and the promises of `candidate`, `count_marked` and `write`, speak of numbers.
+#[derive(Clone, Copy)]
+pub struct Atoms<'a> {
+    pub marks: &'a [u8; ATOM_PLACES],
+    pub last: AtomNo,
+    pub ghost ends: { EndsAt last.0 marks.now } by { ends_once last.0 marks.now },
+}
 
 // A refusal as one by 7, at the same place.
 fn seven(r: Refusal) -> Refusal

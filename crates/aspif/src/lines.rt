@@ -45,6 +45,7 @@ fn last_line(c: Cursor, s: &[u8], ends: LineEnd) -> Result<Cursor, Refusal>
 }
 
 // A statement of the type k, onto the tape.
+// Kept: types of statements, and kinds of heads and bodies (rules.rt, theory.rt), are the numbers of the text, as the definitions `statement_of`, `theory_of`, `heads`, `body` take them.
 fn statement_of(
     at: Progress,
     s: &[u8],

@@ -1,6 +1,6 @@
 // The earliest times that keep differences x - y ≤ k, or a negative cycle.
-// A cycle is shown from its smallest keys[i] on, and labels[i] is the number that shows difference number i; they are slices of
-// their own, since a caller may lend one slice as both.
+// A cycle is shown from its smallest keys[i] on, and labels[i] is the number that shows difference number i.
+// Kept: keys and labels are slices of their own beside the differences; a caller may lend one slice as both, as the judge does.
 #![tactic(auto)]
 
 ghost use Rattle.std.specs.Prelude.{◌≡◌, All, map, ◌++◌, drop, ◌<◌, ◌≤◌, ◌^◌, length};
@@ -45,6 +45,7 @@ fn down_of(k: i32) -> u64
 }
 
 // Whether the difference d, of number i, was not kept: then its y is raised to x - k, and i becomes its parent.
+// Kept: times and parents beside one another; the caller lends the times, the parents are of `decide`, and a type of both would be made for three calls.
 fn relax(d: Difference, i: u32, t: &mut [u64; TERM_PLACES], p: &mut [u32; TERM_PLACES]) -> bool
     requires named { (d.x.0 < term_places) × (d.y.0 < term_places) }
     requires bound { (cell t.old d.x.0 < 2 ^ 62) × (cell t.old d.y.0 < 2 ^ 62) }

@@ -106,6 +106,7 @@ impl Cursor {
     }
 
     // The natural at the cursor, at most `most`, and refused as `beyond` where it is more.
+    // Kept: a clause bounds `most` here and in the three that call this; a type for it would be made of a constant at every call.
     pub fn natural(self, s: &[u8], most: u32, beyond: Kind) -> Field<u32>
         requires { most ≤ largest_bound }
         ensures { as_word result ≡ natural (number beyond) most s.now self.at }

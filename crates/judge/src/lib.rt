@@ -13,7 +13,8 @@ ghost use Rattle.judge.specs.Judged.{Judged};
 ghost use Rattle.judge.specs.Values.{rooms, as_verdict, as_result};
 ghost use Rattle.judge.specs.inner.Stages.{as_judgement, as_judged, BeforeTimes};
 
-use aspif::candidate::candidate;
+use aspif::candidate::{Atoms, candidate};
+use aspif::walk::Lines;
 use diffs::Difference;
 use faults::{
     ATOM_PLACES, AtomNo, CYCLE_ROOM, Kind, LONGEST_TEXT, Refusal, SHORT_TEXT, TABLE_ROOM, TermNo,
@@ -77,21 +78,23 @@ fn before_times(
     requires roomy { Roomy (length tape.old) atoms.old found.old × Blank x.old }
     ensures { BeforeTimes result (asked text.now cand.now) x.new atoms.new found.new }
 {
-    let n = aspif::read(text, tape)?;
-    let m = terms::collect(text, tape, n, atoms, found)?;
+    let count = aspif::read(text, tape)?;
+    let lines = Lines { tape, count };
+    let m = terms::collect(text, lines, atoms, found)?;
     let last = candidate(cand, x)?;
-    if let Some(p) = stable::first_broken(tape, n, x) {
+    if let Some(p) = stable::first_broken(lines, x) {
         return Err(Kind::Broken.at(p as usize));
     }
     let mut ext = [0u8; ATOM_PLACES];
-    externals(tape, n, &atoms[..m], &mut ext);
-    if let Some(a) = stable::smallest_unfounded(tape, n, &ext, x, last) {
+    externals(lines, &atoms[..m], &mut ext);
+    if let Some(a) = stable::smallest_unfounded(lines, &ext, Atoms { marks: x, last }) {
         return Err(Kind::Unfounded.at(a.0 as usize));
     }
     Ok((m, last))
 }
 
 // The timetable's length or the refusal, of any text, with a tape and slices of these sizes.
+// Kept: both rooms beside one another, as they are lent; a type of two `&mut` would have to say of each that it is still the caller's.
 fn judged_within<const WORDS: usize, const DIFFERENCES: usize>(
     text: &[u8],
     cand: &[u8],

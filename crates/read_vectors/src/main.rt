@@ -5,10 +5,9 @@
 ghost use Rattle.std.specs.Prelude.{◌≡◌, ◌≤◌, length};
 ghost use Rattle.files.specs.inner.Cases.{case_at, next_at};
 ghost use Rattle.faults.specs.Limits.{longest_text};
-ghost use Rattle.aspif.specs.inner.Kept.{Ahead};
 
 use aspif::candidate::candidate;
-use aspif::walk::{after_at, word_at};
+use aspif::walk::{Lines, after_at, word_at};
 use aspif::words::{KIND, PLACE, SAYS};
 use faults::{ATOM_PLACES, LONGEST_TEXT};
 use files::container::case_at;
@@ -30,15 +29,12 @@ fn print_line<R: Print>(rt: &R, line: &[u32]) {
 }
 
 // Prints how many lines a tape has, and each of them.
-fn print_lines<R: Print>(rt: &R, tape: &[u32], n: usize)
-    requires { Ahead tape.now 0 n }
-{
-    let _ = println!(rt; "read {n}");
-    let mut p = 0;
-    for _line in 0..n {
+fn print_lines<R: Print>(rt: &R, lines: Lines) {
+    let tape = lines.tape;
+    let _ = println!(rt; "read {}", lines.count);
+    for p in lines.places() {
         let end = after_at(tape, p);
         print_line(rt, &tape[p..end]);
-        p = end;
     }
 }
 
@@ -48,7 +44,7 @@ fn print_text<R: Print>(rt: &R, s: &[u8])
 {
     let mut tape = [0u32; LONGEST_TEXT];
     match aspif::read(s, &mut tape) {
-        Ok(n) => print_lines(rt, &tape, n),
+        Ok(count) => print_lines(rt, Lines { tape: &tape, count }),
         Err(refusal) => {
             let _ = println!(rt; "{refusal}");
         }
@@ -94,6 +90,7 @@ fn run_at<R: Print, F: Fn(&[u8])>(rt: &R, s: &[u8], at: usize, print_case: &F) -
 }
 
 // Runs the cases of a container.
+// Kept: `run` and `run_at` here and in `vectors`; each `run_at` has a promise of its own, of which the edits case_skipped and pair_skipped are.
 #[tactic(auto, using(files::proofs::Cases::next_further))]
 fn run<R: Print, F: Fn(&[u8])>(rt: &R, s: &[u8], print_case: &F)
     requires { (case : _) → length case.now ≤ longest_text → F.pre print_case.now case }

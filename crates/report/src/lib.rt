@@ -16,6 +16,7 @@ use judge::Verdict;
 use timetable::{HEADER, word_at};
 
 // The refusal that has a list.
+// Kept: by its number, as the definition `refused_lines` has it.
 const LISTED: u32 = 10;
 
 // The bytes of a record: its name and its time, four bytes each.

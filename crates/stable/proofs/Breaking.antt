@@ -49,13 +49,10 @@ pub record Passed (X : Atoms) (t : List ℕ) (n p i : ℕ) : Type 0 where
   pub ahead : Ahead t p (n - i)
   pub same : first_broken X (lines_from t 0 n) ≡ first_broken X (lines_from t p (n - i))
 
-pub start : {X : Atoms} {t : List ℕ} {n : ℕ} → Ahead t 0 n → Passed X t n 0 0
-start {n} a = let e : n - 0 ≡ n = omega arith in record { ahead = rw e a; same = rw e }
-
 module _ {X : Atoms} {t : List ℕ} {n p i : ℕ} (k : Passed X t n p i) where
-  pub end : n ≤ i → unbroken ≡ first_broken X (lines_from t 0 n)
+  pub whole : n ≤ i → unbroken ≡ first_broken X (lines_from t 0 n)
   unfolding first_broken lines_from
-  end h = let e : n - i ≡ 0 = omega arith in sym (k.same ∙ rw e)
+  whole h = let e : n - i ≡ 0 = omega arith in sym (k.same ∙ rw e)
 
   module _ (h : i < n) where
     less : n - (i + 1) ≡ n - i - 1

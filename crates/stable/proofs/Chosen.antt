@@ -16,7 +16,7 @@ use Rattle.aspif.specs.Statements.{choice}
 use Rattle.aspif.specs.inner.Kept.{SmallHead}
 use Rattle.stable.specs.inner.Steps.{GrownMarks, MarkedOne, AddedMarks}
 use Rattle.stable.proofs.Lines.{drop-next}
-use Rattle.stable.proofs.Marks.{marked_le, grown_refl, grown_trans, member_set}
+use Rattle.stable.proofs.Marks.{marked_le, grown_trans, member_set}
 
 -- the atoms from i on
 abbrev pub rest : (x ws : List ℕ) (i b : ℕ) → Bool
@@ -27,9 +27,6 @@ pub record Walk (x ws f₀ f : List ℕ) (i added : ℕ) : Type 0 where
   pub long : length f ≡ atom_places
   pub same : (b : ℕ) → (is_marked f₀ b || rest x ws 0 b) ≡ (is_marked f b || rest x ws i b)
   pub grown : GrownMarks f₀ f added
-
-pub start : {x ws f : List ℕ} → SmallHead (choice ws) → length f ≡ atom_places → Walk x ws f f 0 0
-start s l = record { small = s; long = l; same = λ b. refl; grown = grown_refl }
 
 -- a mark as the code counts it
 counted : {f g : List ℕ} {a k : ℕ} (new : Bool) → MarkedOne f g a (cond new 1 0) → k ≡ bool_byte new → MarkedOne f g a k

@@ -12,7 +12,6 @@ use lib.Seq.{get_or-set_same, get_or-set_other}
 use Rattle.basics.specs.inner.Bitmaps.{is_marked, NoneFrom}
 use Rattle.basics.proofs.Bools.{and_none}
 use Rattle.faults.specs.inner.Places.{atom_places}
-use Rattle.aspif.specs.inner.Bitmap.{Blank}
 use Rattle.stable.specs.inner.Steps.{Both}
 
 -- the places below a are filled, those from a on are as they were
@@ -20,9 +19,6 @@ pub record Filled (ext x f : List ℕ) (a : ℕ) : Type 0 where
   pub long : length f ≡ atom_places
   pub done : (k : ℕ) → k < a → is_marked f k ≡ (is_marked ext k && is_marked x k)
   pub clear : (k : ℕ) → a ≤ k → get_or f k 0 ≡ 0
-
-pub start : {ext x f : List ℕ} → Blank f → Filled ext x f 0
-start b = record { long = b.places; done = λ k h. absurd (let z : ⊥ = omega arith in z); clear = λ k h. b.clear k }
 
 module _ {ext x f : List ℕ} {a : ℕ} (p : Filled ext x f a) where
   pub fill : (v : ℕ) → a < atom_places → eqb v 1 ≡ (eqb (get_or ext a 0) 1 && eqb (get_or x a 0) 1) → Filled ext x (set f a v) (a + 1)

@@ -3,7 +3,7 @@ use Prim.Native.Nat.{ℕ, ◌+◌, ◌-◌, ◌*◌, ◌≤◌, ◌<◌}
 use mathlib.Core.List.{List}
 use mathlib.Core.Logic.{◌⊎◌, inl, inr, ⊎_elim}
 use mathlib.Core.Option.{some}
-use mathlib.Core.Path.{◌≡◌, refl, ap, ◌∙◌, sym}
+use mathlib.Core.Path.{◌≡◌, ap, ◌∙◌, sym}
 use native.Mathlib.Omega.{arith}
 use borrow.Author.Count.{below_more}
 use lib.ListN.{length, set, length-set, take}
@@ -39,19 +39,6 @@ pub record Listing (t : List ℕ) (n : ℕ) (index : List ℕ) (size m p i : ℕ
   pub said : (r : Rule) → HasRule (lines_from t p (n - i)) r → HasRule (lines_of t n) r
   pub whole : (r : Rule) → HasRule (lines_of t n) r → Written t index m r ⊎ HasRule (lines_from t p (n - i)) r
 
-pub start : {t : List ℕ} {n : ℕ} {index : List ℕ} → Ahead t 0 n → length t ≤ rule_words * length index → Listing t n index (length index) 0 0 0
-start {n} a s =
-    let e : n - 0 ≡ n = omega arith in
-    record {
-      ahead = rw e a;
-      few = omega arith;
-      long = refl;
-      enough = s;
-      each = λ i h. absurd (let z : ⊥ = omega arith in z);
-      said = λ r h. rw e at h;
-      whole = λ r h. inr (rw e h);
-    }
-
 -- the words of the first m are those of the index
 cut-word : (index : List ℕ) (m i : ℕ) → i < m → word (take m index) i ≡ word index i
 unfolding word
@@ -61,9 +48,9 @@ module _ {t : List ℕ} {n : ℕ} {index : List ℕ} {size m p i : ℕ} (k : Lis
   pub fits : m ≤ length index
   fits = omega (arith, k.few, k.long, k.enough, ahead_starts t p (n - i) k.ahead)
 
-  pub end : n ≤ i → Indexed t n (take m index)
+  pub whole : n ≤ i → Indexed t n (take m index)
   unfolding lines_from
-  end h =
+  whole h =
       let e : n - i ≡ 0 = omega arith in
       let l : length (take m index) ≡ m = length-take-le m index fits in
       record {

@@ -2,7 +2,7 @@
 use Prim.Native.Nat.{ℕ, ◌+◌, ◌/◌, ◌≤◌, ◌<◌}
 use mathlib.Core.Bool.{Bool, true, false, ◌&&◌}
 use mathlib.Core.List.{List, ◌∷◌, map}
-use mathlib.Core.Path.{◌≡◌, refl, ◌∙◌, sym}
+use mathlib.Core.Path.{◌≡◌, ◌∙◌, sym}
 use native.Mathlib.Omega.{arith}
 use lib.ListN.{length, get_or, drop, drop_of_length-le}
 use Rattle.basics.specs.inner.Bitmaps.{is_marked}
@@ -20,9 +20,6 @@ rest x s ws i = all_hold (is_marked x) (is_marked s) (map literal_of (drop i ws)
 pub record Walk (x s ws : List ℕ) (i : ℕ) : Type 0 where
   pub small : SmallLiterals (map literal_of (drop i ws))
   pub same : rest x s ws 0 ≡ rest x s ws i
-
-pub start : {x s ws : List ℕ} → SmallLiterals (map literal_of ws) → Walk x s ws 0
-start k = record { small = k; same = refl }
 
 module _ {x s ws : List ℕ} {i : ℕ} (k : Walk x s ws i) where
   pub end : length ws ≤ i → true ≡ rest x s ws 0

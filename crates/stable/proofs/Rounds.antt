@@ -15,7 +15,7 @@ use Rattle.aspif.specs.inner.Words.{word}
 use Rattle.stable.specs.Meaning.{Atoms, reduct_head, Obeyed}
 use Rattle.stable.specs.inner.Index.{rule_at, RuleOn, Readable}
 use Rattle.stable.specs.inner.Steps.{body_holds, marked_count, GrownMarks, AddedMarks, fires, ClosedBy, Round, Both, LeastBy}
-use Rattle.stable.proofs.Marks.{grown_refl, grown_trans, marked_le}
+use Rattle.stable.proofs.Marks.{grown_trans, marked_le}
 use Rattle.stable.proofs.Reduct.{holds-reduct, holds_mono}
 
 -- what fires by atoms of S is in S, where S obeys the rule
@@ -35,15 +35,6 @@ pub record Turn (X : Atoms) (t index f g : List ℕ) (k i : ℕ) : Type 0 where
   pub grows : (a : ℕ) → is_marked f a ≡ true → is_marked g a ≡ true
   pub sound : (ext S : Atoms) → ClosedBy X ext t index S → ((a : ℕ) → is_marked f a ≡ true → S a ≡ true) → (a : ℕ) → is_marked g a ≡ true → S a ≡ true
   pub done : k ≡ 0 → (j : ℕ) → j < i → (a : ℕ) → fires X (is_marked f) (rule_at t (word index j)) a ≡ true → is_marked f a ≡ true
-
-pub start : {X : Atoms} {t index f : List ℕ} → length f ≡ atom_places → Turn X t index f f 0 0
-start l = record {
-  long = l;
-  grown = grown_refl;
-  grows = λ a h. h;
-  sound = λ ext S cl mono. mono;
-  done = λ e j h. absurd (let z : ⊥ = omega arith in z);
-}
 
 module _ {X : Atoms} {t index f g : List ℕ} {k i : ℕ} (p : Turn X t index f g k i) where
   -- the rule at hand, from the code's read of the index

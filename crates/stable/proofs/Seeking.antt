@@ -15,9 +15,6 @@ use Rattle.stable.specs.inner.Steps.{Sought}
 pub record Seen (x f : List ℕ) (a : ℕ) : Type 0 where
   pub before : (k : ℕ) → k < a → is_marked x k ≡ true → is_marked f k ≡ true
 
-pub start : {x f : List ℕ} → Seen x f 0
-start = record { before = λ k h. absurd (let z : ⊥ = omega arith in z) }
-
 module _ {x f : List ℕ} {a : ℕ} (p : Seen x f a) where
   pub not_in : (get_or x a 0 ≡ 1 → ⊥) → Seen x f (a + 1)
   not_in e = record { before = below_more _ a p.before (λ y. absurd (e (eqb-true (get_or x a 0) 1 y))) }

@@ -2,7 +2,7 @@
 use Prim.Native.Nat.{ℕ, ◌+◌, ◌-◌, ◌/◌, ◌%◌, ◌≤◌, ◌<◌}
 use mathlib.Core.Bool.{Bool, true, false, cond}
 use mathlib.Core.List.{List, ◌∷◌, map}
-use mathlib.Core.Path.{◌≡◌, refl, ◌∙◌, sym}
+use mathlib.Core.Path.{◌≡◌, ◌∙◌, sym}
 use native.Mathlib.Omega.{arith}
 use native.Mathlib.Nat.{zero-add}
 use borrow.Author.Tests.{le-leb, lt-leb}
@@ -30,9 +30,6 @@ pub record Walk (x s ws : List ℕ) (bound due i : ℕ) : Type 0 where
 -- a bound of 0 is reached by nothing
 pub none : (bound r : ℕ) → bound ≡ 0 → true ≡ leb bound r
 none bound r e = sym (le-leb bound r (omega arith))
-
-pub start : {x s ws : List ℕ} {bound : ℕ} → Counted SmallPremise (map premise_of ws) → (bound ≡ 0 → ⊥) → Walk x s ws bound bound 0
-start k z = record { small = k; some = omega (arith, z); same = refl }
 
 module _ {x s ws : List ℕ} {bound due i : ℕ} (k : Walk x s ws bound due i) where
   pub end : length ws ≤ i → false ≡ leb bound (rest x s ws 0)

@@ -9,16 +9,18 @@ ghost use Rattle.faults.specs.Limits.{longest_text};
 ghost use Rattle.faults.specs.inner.Places.{atom_places};
 ghost use Rattle.aspif.specs.Statements.{choice, in_head};
 ghost use Rattle.aspif.specs.Grammar.{literal_of, premise_of, plain_head};
-ghost use Rattle.aspif.specs.inner.Words.{behind, list_at, body_at, lines_of};
-ghost use Rattle.aspif.specs.inner.Bitmap.{Blank, EndsAt};
-ghost use Rattle.aspif.specs.inner.Kept.{Counted, SmallLiterals, SmallPremise, SmallHead, Ahead};
+ghost use Rattle.aspif.specs.inner.Words.{behind, list_at, body_at};
+ghost use Rattle.aspif.specs.inner.Bitmap.{Blank};
+ghost use Rattle.aspif.specs.inner.Kept.{Counted, SmallLiterals, SmallPremise, SmallHead};
+ghost use Rattle.aspif.specs.inner.Values.{lines_in};
 ghost use Rattle.stable.specs.Meaning.{first_broken, broken, FoundedBy};
 ghost use Rattle.stable.specs.inner.Values.{as_broken, as_unfounded};
 ghost use Rattle.stable.specs.inner.Index.{rule_at, BodyOn, RuleOn, rule_words, Readable, Indexed};
 ghost use Rattle.stable.specs.inner.Steps.{literal_holds, all_hold, reached_by, body_holds, fires, MarkedOne, AddedMarks, Round, Both, LeastBy, Sought};
 
+use aspif::candidate::Atoms;
 use aspif::kinds::{NORMAL, RULE};
-use aspif::walk::{after_at, word_at};
+use aspif::walk::{Lines, word_at};
 use aspif::words::{HEAD_KIND, HEADS, LOWER_BOUND, PREMISES, SAYS};
 use faults::{ATOM_PLACES, AtomNo, SHORT_TEXT};
 use fields::WEIGHT_UNIT;
@@ -28,18 +30,6 @@ const SHORT_INDEX: usize = 250;
 
 // The index of the rules on the longest tape.
 const LONG_INDEX: usize = 7500;
-
-// Whether the literal of a word is true, a negated atom being looked up in x and another in s.
-fn literal_true(w: u32, x: &[u8; ATOM_PLACES], s: &[u8; ATOM_PLACES]) -> bool
-    requires w_bound { w / 2 < atom_places }
-    ensures { result ≡ literal_holds (is_marked x.now) (is_marked s.now) (literal_of w) }
-{
-    let a = (w / 2) as usize;
-    if w % 2 == 0 {
-        return s[a] == 1;
-    }
-    x[a] != 1
-}
 
 // The words of the list whose count stands at `at`.
 fn list_at(tape: &[u32], at: usize) -> &[u32]
@@ -51,51 +41,72 @@ fn list_at(tape: &[u32], at: usize) -> &[u32]
     &tape[first..first + n]
 }
 
-// Whether each of the literals is true, by x and s.
-fn all_true(literals: &[u32], x: &[u8; ATOM_PLACES], s: &[u8; ATOM_PLACES]) -> bool
-    requires small { SmallLiterals (map literal_of literals.now) }
-    ensures { result ≡ all_hold (is_marked x.now) (is_marked s.now) (map literal_of literals.now) }
-{
-    for w in literals {
-        if !literal_true(*w, x, s) {
-            return false;
-        }
-    }
-    true
+// Truth in the reduct: a negated atom is looked up in x, another in s.
+#[derive(Clone, Copy)]
+struct Truth<'a> {
+    x: &'a [u8; ATOM_PLACES],
+    s: &'a [u8; ATOM_PLACES],
 }
 
-// Whether the weights of the true premises reach the bound, by x and s.
-fn bound_reached(premises: &[u32], bound: u32, x: &[u8; ATOM_PLACES], s: &[u8; ATOM_PLACES]) -> bool
-    requires small { Counted SmallPremise (map premise_of premises.now) }
-    ensures { result ≡ leb bound (reached_by (is_marked x.now) (is_marked s.now) (map premise_of premises.now)) }
-{
-    if bound == 0 {
-        return true;
+impl Truth<'_> {
+    // Whether the literal of a word is true.
+    fn literal_true(self, w: u32) -> bool
+        requires w_bound { w / 2 < atom_places }
+        ensures { result ≡ literal_holds (is_marked self.entry.x.now) (is_marked self.entry.s.now) (literal_of w) }
+    {
+        let a = (w / 2) as usize;
+        if w % 2 == 0 {
+            return self.s[a] == 1;
+        }
+        self.x[a] != 1
     }
-    let mut due = bound;
-    for w in premises {
-        if literal_true(*w % WEIGHT_UNIT, x, s) {
-            let weight = *w / WEIGHT_UNIT;
-            if due <= weight {
-                return true;
+
+    // Whether each of the literals is true.
+    fn all_true(self, literals: &[u32]) -> bool
+        requires small { SmallLiterals (map literal_of literals.now) }
+        ensures { result ≡ all_hold (is_marked self.entry.x.now) (is_marked self.entry.s.now) (map literal_of literals.now) }
+    {
+        for w in literals {
+            if !self.literal_true(*w) {
+                return false;
             }
-            due -= weight;
         }
+        true
     }
-    false
-}
 
-// Whether the body at `at` is true, negated atoms being looked up in x and the others in s.
-fn body_true(tape: &[u32], at: usize, x: &[u8; ATOM_PLACES], s: &[u8; ATOM_PLACES]) -> bool
-    requires body_on { BodyOn tape.now at }
-    ensures { result ≡ body_holds (is_marked x.now) (is_marked s.now) (body_at tape.now at) }
-{
-    let list = list_at(tape, at + PREMISES);
-    if tape[at] == NORMAL {
-        return all_true(list, x, s);
+    // Whether the weights of the true premises reach the bound.
+    fn bound_reached(self, premises: &[u32], bound: u32) -> bool
+        requires small { Counted SmallPremise (map premise_of premises.now) }
+        ensures { result ≡ leb bound (reached_by (is_marked self.entry.x.now) (is_marked self.entry.s.now) (map premise_of premises.now)) }
+    {
+        if bound == 0 {
+            return true;
+        }
+        let mut due = bound;
+        for w in premises {
+            if self.literal_true(*w % WEIGHT_UNIT) {
+                let weight = *w / WEIGHT_UNIT;
+                if due <= weight {
+                    return true;
+                }
+                due -= weight;
+            }
+        }
+        false
     }
-    let bound = word_at(tape, at, LOWER_BOUND);
-    bound_reached(list, bound, x, s)
+
+    // Whether the body at `at` is true.
+    fn body_true(self, tape: &[u32], at: usize) -> bool
+        requires body_on { BodyOn tape.now at }
+        ensures { result ≡ body_holds (is_marked self.entry.x.now) (is_marked self.entry.s.now) (body_at tape.now at) }
+    {
+        let list = list_at(tape, at + PREMISES);
+        if tape[at] == NORMAL {
+            return self.all_true(list);
+        }
+        let bound = word_at(tape, at, LOWER_BOUND);
+        self.bound_reached(list, bound)
+    }
 }
 
 // Whether the rule at q is broken in x.
@@ -113,20 +124,19 @@ fn is_broken(tape: &[u32], q: usize, x: &[u8; ATOM_PLACES]) -> bool
             return false;
         }
     }
-    body_true(tape, h + 1 + heads.len(), x, x)
+    let truth = Truth { x, s: x };
+    truth.body_true(tape, h + 1 + heads.len())
 }
 
-// The first broken rule among n lines, by the place of its line.
-pub fn first_broken(tape: &[u32], n: usize, x: &[u8; ATOM_PLACES]) -> Option<u32>
-    requires ahead { Ahead tape.now 0 n }
-    ensures { as_broken result ≡ first_broken (is_marked x.now) (lines_of tape.now n) }
+// The first broken rule among the lines, by the place of its line.
+pub fn first_broken(lines: Lines, x: &[u8; ATOM_PLACES]) -> Option<u32>
+    ensures { as_broken result ≡ first_broken (is_marked x.now) (lines_in lines.entry) }
 {
-    let mut p = 0;
-    for _ in 0..n {
+    let tape = lines.tape;
+    for p in lines.places() {
         if word_at(tape, p, SAYS) == RULE && is_broken(tape, p + SAYS, x) {
             return Some(tape[p]);
         }
-        p = after_at(tape, p);
     }
     None
 }
@@ -174,7 +184,8 @@ fn fire(tape: &[u32], q: usize, x: &[u8; ATOM_PLACES], found: &mut [u8; ATOM_PLA
 {
     let h = q + HEADS;
     let heads = list_at(tape, h);
-    if !body_true(tape, h + 1 + heads.len(), x, found) {
+    let truth = Truth { x, s: found };
+    if !truth.body_true(tape, h + 1 + heads.len()) {
         return 0;
     }
     if tape[q + HEAD_KIND] != 0 {
@@ -195,19 +206,13 @@ fn round(tape: &[u32], index: &[u32], x: &[u8; ATOM_PLACES], found: &mut [u8; AT
     added
 }
 
-// The external atoms in x, none of which is above the last, as the first atoms found.
-fn facts(
-    ext: &[u8; ATOM_PLACES],
-    x: &[u8; ATOM_PLACES],
-    last: AtomNo,
-    found: &mut [u8; ATOM_PLACES],
-)
-    requires ends_at { EndsAt last.0 x.now }
+// The external atoms in x, as the first atoms found.
+fn facts(ext: &[u8; ATOM_PLACES], x: Atoms, found: &mut [u8; ATOM_PLACES])
     requires blank { Blank found.old }
-    ensures { Both ext.now x.now found.new }
+    ensures { Both ext.now x.entry.marks.now found.new }
 {
-    for a in 0..=last.0 as usize {
-        found[a] = u8::from(ext[a] == 1 && x[a] == 1);
+    for a in 0..=x.last.0 as usize {
+        found[a] = u8::from(ext[a] == 1 && x.marks[a] == 1);
     }
 }
 
@@ -216,90 +221,72 @@ fn least(
     tape: &[u32],
     index: &[u32],
     ext: &[u8; ATOM_PLACES],
-    x: &[u8; ATOM_PLACES],
-    last: AtomNo,
+    x: Atoms,
     found: &mut [u8; ATOM_PLACES],
 )
     requires readable { Readable tape.now index.now }
-    requires ends_at { EndsAt last.0 x.now }
     requires blank { Blank found.old }
-    ensures { LeastBy (is_marked x.now) (is_marked ext.now) tape.now index.now found.new }
+    ensures { LeastBy (is_marked x.entry.marks.now) (is_marked ext.now) tape.now index.now found.new }
 {
-    facts(ext, x, last, found);
-    while round(tape, index, x, found) != 0 {}
+    facts(ext, x, found);
+    while round(tape, index, x.marks, found) != 0 {}
 }
 
 // The smallest atom in x that is not found.
-fn seek(x: &[u8; ATOM_PLACES], last: AtomNo, found: &[u8; ATOM_PLACES]) -> Option<AtomNo>
-    requires ends_at { EndsAt last.0 x.now }
-    ensures { Sought (as_unfounded result) x.now found.now }
+fn seek(x: Atoms, found: &[u8; ATOM_PLACES]) -> Option<AtomNo>
+    ensures { Sought (as_unfounded result) x.entry.marks.now found.now }
 {
-    for a in 0..=last.0 {
+    for a in 0..=x.last.0 {
         let v = a as usize;
-        if x[v] == 1 && found[v] != 1 {
+        if x.marks[v] == 1 && found[v] != 1 {
             return Some(AtomNo(a));
         }
     }
     None
 }
 
-// The rules among n lines, by the places of their kinds, in the first places of the index.
-fn list_rules<'a>(tape: &[u32], n: usize, index: &'a mut [u32]) -> &'a [u32]
-    requires ahead { Ahead tape.now 0 n }
-    requires tape_len_bound { length tape.now ≤ longest_text }
-    requires index_len_bound { length tape.now ≤ rule_words * length index.old }
-    ensures { Indexed tape.now n result.now }
+// The rules among the lines, by the places of their kinds, in the first places of the index.
+fn list_rules<'a>(lines: Lines, index: &'a mut [u32]) -> &'a [u32]
+    requires index_len_bound { length lines.tape.now ≤ rule_words * length index.old }
+    requires rules_bound { length index.old ≤ longest_text }
+    ensures { Indexed lines.entry.tape.now lines.entry.count result.now }
 {
+    let tape = lines.tape;
     let mut m = 0;
-    let mut p = 0;
-    for _ in 0..n {
+    for p in lines.places() {
         if word_at(tape, p, SAYS) == RULE {
             let q = p + SAYS;
             index[m] = q as u32;
             m += 1;
         }
-        p = after_at(tape, p);
     }
     &index[..m]
 }
 
-// The smallest unfounded atom of x by the rules among n lines, by an index with room for RULES of them.
+// The smallest unfounded atom of x by the rules among the lines, by an index with room for RULES of them.
 fn unfounded_by<const RULES: usize>(
-    tape: &[u32],
-    n: usize,
+    lines: Lines,
     ext: &[u8; ATOM_PLACES],
-    x: &[u8; ATOM_PLACES],
-    last: AtomNo,
+    x: Atoms,
 ) -> Option<AtomNo>
-    requires ahead { Ahead tape.now 0 n }
-    requires tape_len_bound { length tape.now ≤ longest_text }
-    requires index_len_bound { length tape.now ≤ rule_words * RULES }
+    requires index_len_bound { length lines.tape.now ≤ rule_words * RULES }
     requires rules_bound { RULES ≤ longest_text }
-    requires ends_at { EndsAt last.0 x.now }
-    ensures { FoundedBy (as_unfounded result) (is_marked x.now) (is_marked ext.now) (lines_of tape.now n) }
+    ensures { FoundedBy (as_unfounded result) (is_marked x.entry.marks.now) (is_marked ext.now) (lines_in lines.entry) }
 {
     let mut index = [0u32; RULES];
-    let rules = list_rules(tape, n, &mut index);
+    let rules = list_rules(lines, &mut index);
     let mut found = [0u8; ATOM_PLACES];
-    least(tape, rules, ext, x, last, &mut found);
-    seek(x, last, &found)
+    least(lines.tape, rules, ext, x, &mut found);
+    seek(x, &found)
 }
 
-// The smallest unfounded atom of x, none of which is above the last, by the rules among n lines.
-pub fn smallest_unfounded(
-    tape: &[u32],
-    n: usize,
-    ext: &[u8; ATOM_PLACES],
-    x: &[u8; ATOM_PLACES],
-    last: AtomNo,
-) -> Option<AtomNo>
-    requires ahead { Ahead tape.now 0 n }
-    requires tape_len_bound { length tape.now ≤ longest_text }
-    requires ends_at { EndsAt last.0 x.now }
-    ensures { FoundedBy (as_unfounded result) (is_marked x.now) (is_marked ext.now) (lines_of tape.now n) }
+// The smallest unfounded atom of x by the rules among the lines.
+pub fn smallest_unfounded(lines: Lines, ext: &[u8; ATOM_PLACES], x: Atoms) -> Option<AtomNo>
+    requires tape_len_bound { length lines.tape.now ≤ longest_text }
+    ensures { FoundedBy (as_unfounded result) (is_marked x.entry.marks.now) (is_marked ext.now) (lines_in lines.entry) }
 {
-    if tape.len() <= SHORT_TEXT {
-        return unfounded_by::<SHORT_INDEX>(tape, n, ext, x, last);
+    if lines.tape.len() <= SHORT_TEXT {
+        return unfounded_by::<SHORT_INDEX>(lines, ext, x);
     }
-    unfounded_by::<LONG_INDEX>(tape, n, ext, x, last)
+    unfounded_by::<LONG_INDEX>(lines, ext, x)
 }

@@ -16,13 +16,14 @@ use Rattle.std.specs.Option.{SomeIff}
 use Rattle.std.specs.Prelude as code
 use Rattle.basics.specs.Bools.{pick}
 use Rattle.basics.proofs.Bools.{and_none, and_cases}
-use Rattle.aspif.specs.Statements.{Literal, Term, num, str, comp, Element, elem, Guard, unguarded, guard, theory_in}
+use Rattle.aspif.specs.Statements.{Literal, Term, num, str, comp, Element, elem, Guard, unguarded, guard}
 use Rattle.aspif.specs.Grammar.{integer_of, literal_of}
-use Rattle.aspif.specs.inner.Words.{number_kind, string_kind, compound_kind, element_kind, guarded_kind, word, words_from, literals_at, says_at}
+use Rattle.aspif.specs.inner.Words.{number_kind, string_kind, compound_kind, element_kind, guarded_kind, word, words_from, literals_at}
 use Rattle.aspif.proofs.Walking.{word_out, first_word, words-length}
 use Rattle.terms.specs.Says.{diff_word, minus, at_most}
 use Rattle.terms.specs.Terms.{defined, same_bytes, is_string, is_minus, opposite, bound_of, pair_of, pair_in, joined, difference_of}
 use Rattle.terms.specs.inner.Tables.{is_term, minus_of, term_of, element_of, place_of, place_in, term_at, term_on, element_on, look_in, elements_in, difference_in, stated_on}
+use Rattle.terms.specs.inner.Values.{OfKind}
 use Rattle.terms.proofs.Signs.{back, fits_int, fits-opposite, term-half}
 use Rattle.terms.proofs.ByKind.{by_kind, number-says, string-says, compound_says, element_says, guarded_says}
 
@@ -108,31 +109,19 @@ compounded t look count q h =
 
 -- ---- a term by the place of its entry
 
-module _ (t terms : List ℕ) (u : ℕ) (o : code.Option ℕ) (eo : o ≡ place_in terms u) where
-  term_by : look_in t terms u ≡ term_on t o
-  unfolding look_in
-  term_by = rw eo
-
-  pub known_if : is_some o ≡ defined (look_in t terms u)
-  unfolding term_on
-  known_if = rw term_by (go o)
+module _ (t terms : List ℕ) (u : ℕ) where
+  pub known_if : is_some (place_in terms u) ≡ defined (look_in t terms u)
+  unfolding look_in term_on
+  known_if = go (place_in terms u)
     where
       go : (o : code.Option ℕ) → is_some o ≡ defined (term_on t o)
       go None = refl
       go (Some q) = refl
 
-  module _ (z : o ≡ None) where
+  module _ (z : None ≡ place_in terms u) where
     term_out : look_in t terms u ≡ none
-    unfolding term_on
-    term_out = term_by ∙ rw z
-
-    pub string_out : (l : List ℕ) → false ≡ is_string l (look_in t terms u)
-    unfolding is_string
-    string_out l = rw term_out
-
-    pub against_out : none ≡ opposite (look_in t terms u)
-    unfolding opposite
-    against_out = rw term_out
+    unfolding look_in term_on
+    term_out = rw (← z)
 
     pub bound_out : none ≡ bound_of (look_in t terms) (look_in t terms u)
     unfolding bound_of
@@ -142,39 +131,19 @@ module _ (t terms : List ℕ) (u : ℕ) (o : code.Option ℕ) (eo : o ≡ place_
     unfolding pair_of
     pair_out = rw term_out
 
-  module _ (q : ℕ) (there : o ≡ Some q) where
+  module _ (q : ℕ) (there : Some q ≡ place_in terms u) where
     term_is : look_in t terms u ≡ some (term_at t q)
-    unfolding term_on
-    term_is = term_by ∙ rw there
+    unfolding look_in term_on
+    term_is = rw (← there)
 
     module _ (k : ℕ) (ek : k ≡ word t (q + 0)) where
       kind : word t q ≡ k
       kind = first_word t q k ek
 
-      pub string-not : (l : List ℕ) → (k ≡ string_kind → ⊥) → false ≡ is_string l (look_in t terms u)
-      unfolding is_string
-      string-not l z =
-          rw term_is
-          (by_kind t q (λ x. false ≡ is_string l (some (term_of x))) (λ h. refl) (λ h. absurd (z (sym kind ∙ h))) (λ h. refl) (λ h. refl) (λ h. refl) (λ h. refl) (λ h. refl))
-
-      pub string-is : (l : List ℕ) (n : ℕ) → k ≡ string_kind → n ≡ word t (q + 2) → same_bytes (words_from t (q + 3) n) l ≡ is_string l (look_in t terms u)
-      unfolding is_string
-      string-is l n z en = rw (term_is, string-says t q (kind ∙ z), en)
-
-      pub against-not : (k ≡ number_kind → ⊥) → none ≡ opposite (look_in t terms u)
-      unfolding opposite
-      against-not z =
-          rw term_is
-          (by_kind t q (λ x. none ≡ opposite (some (term_of x))) (λ h. absurd (z (sym kind ∙ h))) (λ h. refl) (λ h. refl) (λ h. refl) (λ h. refl) (λ h. refl) (λ h. refl))
-
-      module _ (w : ℕ) (z : ℤ) (nk : k ≡ number_kind) (ew : w ≡ word t (q + 2)) (h : w < 4294967296) where
-        pub against-is : z ≡ neg_ℤ (integer_of w) → some (to_z w32 (of_z w32 z)) ≡ opposite (look_in t terms u)
-        unfolding opposite
-        against-is ez = rw (ez, back (fits-opposite w h), term_is, number-says t q (kind ∙ nk), ew)
-
-        pub bound-number : z ≡ integer_of w → some (to_z w32 (of_z w32 z)) ≡ bound_of (look_in t terms) (look_in t terms u)
-        unfolding bound_of
-        bound-number ez = rw (ez, back (fits_int w h), term_is, number-says t q (kind ∙ nk), ew)
+      pub bound-number : (w : ℕ) (z : ℤ) → k ≡ number_kind → w ≡ word t (q + 2) → w < 4294967296 → z ≡ integer_of w
+          → some (to_z w32 (of_z w32 z)) ≡ bound_of (look_in t terms) (look_in t terms u)
+      unfolding bound_of
+      bound-number w z nk ew h ez = rw (ez, back (fits_int w h), term_is, number-says t q (kind ∙ nk), ew)
 
       pub bound-not : (b : Bool) → (k ≡ number_kind → ⊥) → b ≡ minus_of (look_in t terms) 1 (term_at t q) → b ≡ false → none ≡ bound_of (look_in t terms) (look_in t terms u)
       unfolding bound_of
@@ -215,66 +184,83 @@ module _ (t terms : List ℕ) (u : ℕ) (o : code.Option ℕ) (eo : o ≡ place_
         let i : q + 4 + 1 ≡ q + 5 = omega arith in
         rw (term_is, c.is, c.sign, i, ex, ey)
 
+-- ---- a term by the statement that defines it, where that is to be of one kind
+
+module _ (t terms : List ℕ) (u : ℕ) where
+  pub string_out : (l : List ℕ) → OfKind t terms u string_kind None → false ≡ is_string l (look_in t terms u)
+  unfolding is_string look_in term_on
+  string_out l h = go (place_in terms u) refl
+    where
+      go : (o : code.Option ℕ) → o ≡ place_in terms u → false ≡ is_string l (term_on t o)
+      go None z = refl
+      go (Some q) z = by_kind t q (λ x. false ≡ is_string l (some (term_of x))) (λ w. refl) (λ w. absurd (h q z w)) (λ w. refl) (λ w. refl) (λ w. refl) (λ w. refl) (λ w. refl)
+
+  pub string-is : (l : List ℕ) (q n : ℕ) → OfKind t terms u string_kind (Some q) → n ≡ word t (q + 2) → same_bytes (words_from t (q + 3) n) l ≡ is_string l (look_in t terms u)
+  unfolding is_string
+  string-is l q n h en = rw (term_is t terms u q h.0, string-says t q h.1, en)
+
+  pub against_out : OfKind t terms u number_kind None → none ≡ opposite (look_in t terms u)
+  unfolding opposite look_in term_on
+  against_out h = go (place_in terms u) refl
+    where
+      go : (o : code.Option ℕ) → o ≡ place_in terms u → none ≡ opposite (term_on t o)
+      go None z = refl
+      go (Some q) z = by_kind t q (λ x. none ≡ opposite (some (term_of x))) (λ w. absurd (h q z w)) (λ w. refl) (λ w. refl) (λ w. refl) (λ w. refl) (λ w. refl) (λ w. refl)
+
+  pub against-is : (q w : ℕ) (z : ℤ) → OfKind t terms u number_kind (Some q) → w ≡ word t (q + 2) → w < 4294967296 → z ≡ neg_ℤ (integer_of w)
+      → some (to_z w32 (of_z w32 z)) ≡ opposite (look_in t terms u)
+  unfolding opposite
+  against-is q w z h ew l ez = rw (ez, back (fits-opposite w l), term_is t terms u q h.0, number-says t q h.1, ew)
+
 -- ---- two sides in an element
 
-module _ (t els : List ℕ) (v : ℕ) (o : code.Option ℕ) (eo : o ≡ place_in els v) where
-  element_by : elements_in t els v ≡ element_on t o
-  unfolding elements_in
-  element_by = rw eo
+pub collected_if : (t els : List ℕ) (v : ℕ) → is_some (place_in els v) ≡ defined (elements_in t els v)
+unfolding elements_in element_on
+collected_if t els v = go (place_in els v)
+  where
+    go : (o : code.Option ℕ) → is_some o ≡ defined (element_on t o)
+    go None = refl
+    go (Some q) = refl
 
-  pub collected_if : is_some o ≡ defined (elements_in t els v)
-  unfolding element_on
-  collected_if = rw element_by (go o)
+module _ (t els : List ℕ) (v : ℕ) (look : ℕ → Option Term) where
+  pub in_none : OfKind t els v element_kind None → none ≡ pair_in look (elements_in t els v)
+  unfolding pair_in elements_in element_on
+  in_none h = go (place_in els v) refl
     where
-      go : (o : code.Option ℕ) → is_some o ≡ defined (element_on t o)
-      go None = refl
-      go (Some q) = refl
+      go : (o : code.Option ℕ) → o ≡ place_in els v → none ≡ pair_in look (element_on t o)
+      go None z = refl
+      go (Some q) z = by_kind t q (λ x. none ≡ pair_in look (some (element_of x))) (λ w. refl) (λ w. refl) (λ w. refl) (λ w. absurd (h q z w)) (λ w. refl) (λ w. refl) (λ w. refl)
 
-  module _ (look : ℕ → Option Term) where
-    pub in_none : o ≡ None → none ≡ pair_in look (elements_in t els v)
-    unfolding pair_in element_on
-    in_none z = rw (element_by, z)
+  module _ (q : ℕ) (there : OfKind t els v element_kind (Some q)) (n : ℕ) (en : n ≡ word t (q + 2)) where
+    collected : elements_in t els v ≡ some (elem (words_from t (q + 3) n) (literals_at t (q + 3 + n)))
+    unfolding elements_in element_on
+    collected = rw (← there.0, element_says t q there.1, en)
 
-    module _ (q : ℕ) (there : o ≡ Some q) (k : ℕ) (ek : k ≡ word t (q + 0)) where
-      element_is : elements_in t els v ≡ some (element_of (theory_in (says_at t q)))
-      unfolding element_on
-      element_is = element_by ∙ rw there
+    pub in_many : (n ≡ 1 → ⊥) → none ≡ pair_in look (elements_in t els v)
+    unfolding pair_in words_from
+    in_many h = rw collected (go n (literals_at t (q + 3 + n)) h)
+      where
+        go : (n : ℕ) (c : List Literal) → (n ≡ 1 → ⊥) → none ≡ pair_in look (some (elem (words_from t (q + 3) n) c))
+        go zero c h = refl
+        go (suc zero) c h = absurd (h refl)
+        go (suc (suc n)) c h = refl
 
-      pub in_not : (k ≡ element_kind → ⊥) → none ≡ pair_in look (elements_in t els v)
-      unfolding pair_in
-      in_not z =
-          rw element_is
-          (by_kind t q (λ x. none ≡ pair_in look (some (element_of x))) (λ h. refl) (λ h. refl) (λ h. refl) (λ h. absurd (z (sym (first_word t q k ek) ∙ h))) (λ h. refl) (λ h. refl) (λ h. refl))
+    module _ (one : n ≡ 1) (m : ℕ) (em : m ≡ word t (q + 4)) where
+      collected_one : elements_in t els v ≡ some (elem (word t (q + 3) ∷ []) (map literal_of (words_from t (q + 4 + 1) m)))
+      unfolding words_from
+      collected_one = let i : q + 3 + 1 ≡ q + 4 = omega arith in collected ∙ rw (one, i, em)
 
-      module _ (ok : k ≡ element_kind) (n : ℕ) (en : n ≡ word t (q + 2)) where
-        collected : elements_in t els v ≡ some (elem (words_from t (q + 3) n) (literals_at t (q + 3 + n)))
-        collected = element_is ∙ rw (element_says t q (first_word t q k ek ∙ ok), en)
+      pub in_condition : (m ≡ 0 → ⊥) → none ≡ pair_in look (elements_in t els v)
+      unfolding pair_in words_from
+      in_condition h = rw collected_one (go m h)
+        where
+          go : (m : ℕ) → (m ≡ 0 → ⊥) → none ≡ pair_in look (some (elem (word t (q + 3) ∷ []) (map literal_of (words_from t (q + 4 + 1) m))))
+          go zero h = absurd (h refl)
+          go (suc m) h = refl
 
-        pub in_many : (n ≡ 1 → ⊥) → none ≡ pair_in look (elements_in t els v)
-        unfolding pair_in words_from
-        in_many h = rw collected (go n (literals_at t (q + 3 + n)) h)
-          where
-            go : (n : ℕ) (c : List Literal) → (n ≡ 1 → ⊥) → none ≡ pair_in look (some (elem (words_from t (q + 3) n) c))
-            go zero c h = refl
-            go (suc zero) c h = absurd (h refl)
-            go (suc (suc n)) c h = refl
-
-        module _ (one : n ≡ 1) (m : ℕ) (em : m ≡ word t (q + 4)) where
-          collected_one : elements_in t els v ≡ some (elem (word t (q + 3) ∷ []) (map literal_of (words_from t (q + 4 + 1) m)))
-          unfolding words_from
-          collected_one = let i : q + 3 + 1 ≡ q + 4 = omega arith in collected ∙ rw (one, i, em)
-
-          pub in_condition : (m ≡ 0 → ⊥) → none ≡ pair_in look (elements_in t els v)
-          unfolding pair_in words_from
-          in_condition h = rw collected_one (go m h)
-            where
-              go : (m : ℕ) → (m ≡ 0 → ⊥) → none ≡ pair_in look (some (elem (word t (q + 3) ∷ []) (map literal_of (words_from t (q + 4 + 1) m))))
-              go zero h = absurd (h refl)
-              go (suc m) h = refl
-
-          pub in_is : (w : ℕ) → m ≡ 0 → w ≡ word t (q + 3) → pair_of look (look w) ≡ pair_in look (elements_in t els v)
-          unfolding pair_in words_from
-          in_is w h ew = rw (collected_one, h, ew)
+      pub in_is : (w : ℕ) → m ≡ 0 → w ≡ word t (q + 3) → pair_of look (look w) ≡ pair_in look (elements_in t els v)
+      unfolding pair_in words_from
+      in_is w h ew = rw (collected_one, h, ew)
 
 -- ---- a difference
 

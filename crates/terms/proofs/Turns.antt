@@ -16,6 +16,7 @@ use Rattle.basics.specs.Bools.{pick}
 use Rattle.faults.specs.Answer.{Answer, got, refused}
 use Rattle.faults.specs.declared.Refusal.{Refusal}
 use Rattle.faults.specs.declared.Kind.{Kind}
+use Rattle.faults.specs.declared.Kind.TheVariants as kind
 use Rattle.faults.specs.Values.{number}
 use Rattle.fields.specs.Fields.{field_place}
 use Rattle.aspif.specs.Statements.{Term, Element, unguarded, guard, Theory, defines, collects, states, Statement, rule, output, theory, comment, theory_in}
@@ -28,7 +29,7 @@ use Rattle.diffs.specs.declared.Difference.{Difference}
 use Rattle.terms.specs.Terms.{Env, defined, difference_of, twice, second, not_difference, Stated, more}
 use Rattle.terms.specs.Reasons.{unknown_use, reason, reason_of}
 use Rattle.terms.specs.inner.Tables.{role_of, term_at, element_of, place_of, place_in, term_on, element_on, look_in, elements_in, env_of, difference_in, stated_on, changed, known_with, walk, held_at, tabulated, gather}
-use Rattle.terms.specs.inner.Values.{difference_words, Turned}
+use Rattle.terms.specs.inner.Values.{as_option, difference_words, Turn, Defines, Turned}
 use Rattle.terms.specs.declared.lines.Role.TheVariants as role
 use Rattle.terms.proofs.ByKind.{role_does}
 use Rattle.terms.proofs.Ways.{reason-twice, reason-unknown, reason-second, reason_no_difference, reason-none}
@@ -73,42 +74,50 @@ module _ (t terms els : List ℕ) (seen : List Bool) (p : ℕ) where
   unfolding walk
   turn_refused text x kind f e b = record { goes = λ ls. rw (e, ← b); lasts = tt }
 
-  -- a line that defines a number: o is the place of its entry, if it has one already
-  module _ (o : code.Option ℕ) (before : is_some o ≡ twice here stating) where
-    pub defined-twice : is_some o ≡ true → reason 61 0 ≡ reason_of here stating
-    defined-twice z = reason-twice here stating (rw z at before)
+  -- a line that defines the number u in a table: refused by its reason, or else u is entered
+  module _ (text table : List ℕ) (u : ℕ) (P : Turn → List ℕ → Type 0) (out : (y : Refusal) → Turned text t p terms els seen (Err y) terms els seen → P (Err y) table) where
+    by_definition : (o x : code.Option ℕ) (r : Turn) (table' : List ℕ) → is_some o ≡ twice here stating → as_option x ≡ unknown_use here stating
+        → (false ≡ twice here stating → none ≡ unknown_use here stating → P (Ok None) (set table u (p + 2 + 1)))
+        → Defines text t p table u o x r table' → P r table'
+    by_definition (Some q) x r table' b w go d = rw (d.0, d.1) (out _ (turn_refused text _ kind.Twice 0 refl (reason-twice here stating b)))
+    by_definition None (Some f) r table' b w go d = rw (d.0, d.1) (out _ (turn_refused text _ kind.Unknown f refl (reason-unknown here stating b (some f) f refl w)))
+    by_definition None None r table' b w go d = rw (d.0, d.1) (go b w)
 
-    pub defined-unknown : is_some o ≡ false → (x : Option ℕ) (f : ℕ) → x ≡ some f → x ≡ unknown_use here stating → reason 62 f ≡ reason_of here stating
-    defined-unknown z = reason-unknown here stating (rw z at before)
-
-    defined_once : is_some o ≡ false → none ≡ unknown_use here stating → false ≡ second here stating → false ≡ not_difference here stating → none ≡ reason_of here stating
-    defined_once z = reason-none here stating (rw z at before)
-
-  module _ (r : role_of (word t (p + 2)) ≡ role.Term) (u : ℕ) (o : code.Option ℕ) (eu : u ≡ word t (p + 2 + 1)) (eo : o ≡ place_in terms u) where
-    pub term-before : is_some o ≡ twice here stating
+  module _ (r : role_of (word t (p + 2)) ≡ role.Term) (u : ℕ) (eu : u ≡ word t (p + 2 + 1)) where
+    term-before : is_some (place_in terms u) ≡ twice here stating
     unfolding env_of
-    term-before = let d = rw r at (role_does t (p + 2)) in rw (d.1, ← eu) (known_if t terms u o eo)
+    term-before = let d = rw r at (role_does t (p + 2)) in rw (d.1, ← eu) (known_if t terms u)
 
-    pub term-turned : (text terms' : List ℕ) → is_some o ≡ false → none ≡ unknown_use here stating → u < length terms → terms' ≡ set terms u (p + 2 + 1)
-        → Turned text t p terms els seen (Ok None) terms' els seen
+    term-turned : (text : List ℕ) → u < length terms → false ≡ twice here stating → none ≡ unknown_use here stating
+        → Turned text t p terms els seen (Ok None) (set terms u (p + 2 + 1)) els seen
     unfolding walk known_with env_of
-    term-turned text terms' z w l es =
+    term-turned text l z w =
         let d = rw r at (role_does t (p + 2)) in
-        let b = defined_once o term-before z w (rw d.1 refl) (rw d.1 refl) in
-        record { goes = λ ls. rw (← b, es, terms-entered t (p + 2) terms u l, d.1, eu); lasts = tt }
+        let b = reason-none here stating z w (rw d.1 refl) (rw d.1 refl) in
+        record { goes = λ ls. rw (← b, terms-entered t (p + 2) terms u l, d.1, eu); lasts = tt }
 
-  module _ (r : role_of (word t (p + 2)) ≡ role.Element) (v : ℕ) (o : code.Option ℕ) (ev : v ≡ word t (p + 2 + 1)) (eo : o ≡ place_in els v) where
-    pub element_before : is_some o ≡ twice here stating
+    pub term-defined : (text : List ℕ) (x : code.Option ℕ) (s : Turn) (terms' : List ℕ) → as_option x ≡ unknown_use here stating → u < length terms
+        → Defines text t p terms u (place_in terms u) x s terms' → Turned text t p terms els seen s terms' els seen
+    term-defined text x s terms' w l =
+        by_definition text terms u (λ s terms'. Turned text t p terms els seen s terms' els seen) (λ y h. h) (place_in terms u) x s terms' term-before w (term-turned text l)
+
+  module _ (r : role_of (word t (p + 2)) ≡ role.Element) (v : ℕ) (ev : v ≡ word t (p + 2 + 1)) where
+    element_before : is_some (place_in els v) ≡ twice here stating
     unfolding env_of
-    element_before = let d = rw r at (role_does t (p + 2)) in rw (d.1, ← ev) (collected_if t els v o eo)
+    element_before = let d = rw r at (role_does t (p + 2)) in rw (d.1, ← ev) (collected_if t els v)
 
-    pub element_turned : (text els' : List ℕ) → is_some o ≡ false → none ≡ unknown_use here stating → v < length els → els' ≡ set els v (p + 2 + 1)
-        → Turned text t p terms els seen (Ok None) terms els' seen
+    element_turned : (text : List ℕ) → v < length els → false ≡ twice here stating → none ≡ unknown_use here stating
+        → Turned text t p terms els seen (Ok None) terms (set els v (p + 2 + 1)) seen
     unfolding walk known_with env_of
-    element_turned text els' z w l es =
+    element_turned text l z w =
         let d = rw r at (role_does t (p + 2)) in
-        let b = defined_once o element_before z w (rw d.1 refl) (rw d.1 refl) in
-        record { goes = λ ls. rw (← b, es, elements-entered t (p + 2) els v l, d.1, ev); lasts = tt }
+        let b = reason-none here stating z w (rw d.1 refl) (rw d.1 refl) in
+        record { goes = λ ls. rw (← b, elements-entered t (p + 2) els v l, d.1, ev); lasts = tt }
+
+    pub element-defined : (text : List ℕ) (x : code.Option ℕ) (s : Turn) (els' : List ℕ) → as_option x ≡ unknown_use here stating → v < length els
+        → Defines text t p els v (place_in els v) x s els' → Turned text t p terms els seen s terms els' seen
+    element-defined text x s els' w l =
+        by_definition text els v (λ s els'. Turned text t p terms els seen s terms els' seen) (λ y h. h) (place_in els v) x s els' element_before w (element_turned text l)
 
   pub other_turned : (text : List ℕ) → role_of (word t (p + 2)) ≡ role.Other → Turned text t p terms els seen (Ok None) terms els seen
   unfolding walk known_with reason_of

@@ -30,11 +30,11 @@ use Rattle.terms.proofs.Reading.{known_if, collected_if}
 
 entered-terms : (t terms : List ℕ) → entered terms ≡ (λ u. defined (look_in t terms u))
 unfolding entered
-entered-terms t terms = fun_ext (λ u. known_if t terms u (place_in terms u) refl)
+entered-terms t terms = fun_ext (known_if t terms)
 
 entered-elements : (t els : List ℕ) → entered els ≡ (λ v. defined (elements_in t els v))
 unfolding entered
-entered-elements t els = fun_ext (λ v. collected_if t els v (place_in els v) refl)
+entered-elements t els = fun_ext (collected_if t els)
 
 -- ---- one use, or else another
 

@@ -4,7 +4,7 @@ ghost use Rattle.aspif.specs.Grammar.{integer_of};
 ghost use Rattle.terms.specs.Terms.{same_bytes, is_string, is_minus, opposite, bound_of, pair_of, pair_in, joined};
 ghost use Rattle.aspif.specs.inner.Words.{words_from};
 ghost use Rattle.terms.specs.inner.Tables.{is_term, minus_of, term_at, terms_of, elements_of, stated_on};
-ghost use Rattle.terms.specs.inner.Values.{as_option, as_sides, as_said};
+ghost use Rattle.terms.specs.inner.Values.{as_option, as_sides, as_said, OfKind};
 
 use crate::tables::{Known, entry};
 use aspif::kinds::{COMPOUND, ELEMENT, GUARDED, NUMBER, STRING};
@@ -56,18 +56,21 @@ fn negated(w: u32) -> i32
 }
 
 impl Known<'_> {
+    // The place of the statement that defines a number of a table, if it is of that kind.
+    fn statement(&self, table: &[u32], number: u32, kind: u32) -> Option<usize>
+        ensures { OfKind self.now.tape.now table.now number kind result }
+    {
+        entry(table, number).filter(|q| word_at(self.tape, *q, KIND) == kind)
+    }
+
     // Whether a term is the string wanted.
     fn named(&self, u: TermNo, wanted: &[u8]) -> bool
         requires { length wanted.now ≤ 8 }
         ensures { result ≡ is_string wanted.now (terms_of self.now u.0) }
     {
-        let Some(q) = entry(self.terms, u.0) else {
+        let Some(q) = self.statement(self.terms, u.0, STRING) else {
             return false;
         };
-        let kind = word_at(self.tape, q, KIND);
-        if kind != STRING {
-            return false;
-        }
         let n = word_at(self.tape, q, LENGTH);
         same(self.tape, q, n, wanted)
     }
@@ -83,11 +86,7 @@ impl Known<'_> {
     fn against(&self, u: TermNo) -> Option<i32>
         ensures { as_option result ≡ opposite (terms_of self.now u.0) }
     {
-        let q = entry(self.terms, u.0)?;
-        let kind = word_at(self.tape, q, KIND);
-        if kind != NUMBER {
-            return None;
-        }
+        let q = self.statement(self.terms, u.0, NUMBER)?;
         let w = word_at(self.tape, q, VALUE);
         Some(negated(w))
     }
@@ -142,11 +141,7 @@ impl Known<'_> {
     fn pair_in(&self, v: ElementNo) -> Option<(TermNo, TermNo)>
         ensures { as_sides result ≡ pair_in (terms_of self.now) (elements_of self.now v.0) }
     {
-        let q = entry(self.elements, v.0)?;
-        let kind = word_at(self.tape, q, KIND);
-        if kind != ELEMENT {
-            return None;
-        }
+        let q = self.statement(self.elements, v.0, ELEMENT)?;
         let n = word_at(self.tape, q, TERMS);
         if n != 1 {
             return None;

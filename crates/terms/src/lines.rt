@@ -1,11 +1,9 @@
 // One line in its turn: refused where something is wrong with it, else entered.
-ghost use Rattle.std.specs.Prelude.{◌≡◌, List, Bool, ℕ, ◌≤◌, length};
+ghost use Rattle.std.specs.Prelude.{◌≡◌, List, Bool, ℕ, ◌+◌, ◌≤◌, ◌<◌, length};
 ghost use Rattle.faults.specs.Limits.{longest_text};
-ghost use Rattle.fields.specs.Fields.{field_place};
-ghost use Rattle.aspif.specs.inner.Words.{word};
 ghost use Rattle.aspif.specs.inner.Kept.{LineOn};
-ghost use Rattle.terms.specs.inner.Tables.{role_of};
-ghost use Rattle.terms.specs.inner.Values.{LineFor, Takes};
+ghost use Rattle.terms.specs.inner.Tables.{role_of, place_in};
+ghost use Rattle.terms.specs.inner.Values.{refusal_at, Defines, LineFor, Takes};
 ghost use Rattle.terms.specs.declared.lines.Role.TheVariants as role;
 
 use crate::tables::{Known, enter, entry};
@@ -56,11 +54,27 @@ fn role_of(kind: u32) -> Role
 impl LineAt<'_> {
     // The refusal of the line, placed at one of its fields.
     fn refusal(&self, kind: Kind, field: usize) -> Refusal
-        ensures { result ≡ record { kind = kind; place = field_place self.now.text.now field (word self.now.tape.now self.now.p) } }
+        ensures { result ≡ refusal_at self.now.text.now self.now.tape.now self.now.p kind field }
     {
         let line = word_at(self.tape, self.p, PLACE);
         let place = field_place(self.text, field, line as usize);
         kind.at(place)
+    }
+
+    // Enters a number that the line defines in its table; refused where it is defined already, or where the line uses what is unknown.
+    fn define(&self, table: &mut [u32], number: u32, unknown: Option<usize>) -> Turn
+        requires { (self.now.p + 2 ≤ longest_text) × (number < length table.old) }
+        ensures { Defines self.now.text.now self.now.tape.now self.now.p table.old number (place_in table.old number) unknown result table.new }
+    {
+        let defined = entry(table, number);
+        if defined.is_some() {
+            return Err(self.refusal(Kind::Twice, FIRST_FIELD));
+        }
+        if let Some(field) = unknown {
+            return Err(self.refusal(Kind::Unknown, field));
+        }
+        enter(table, number, self.p + SAYS);
+        Ok(None)
     }
 
     // Takes the line, which defines a term.
@@ -70,16 +84,8 @@ impl LineAt<'_> {
     {
         let q = self.p + SAYS;
         let u = term_at(self.tape, q, OF);
-        let defined = entry(terms, u.0);
-        if defined.is_some() {
-            return Err(self.refusal(Kind::Twice, FIRST_FIELD));
-        }
         let unknown = term_use(self.tape, q, terms);
-        if let Some(field) = unknown {
-            return Err(self.refusal(Kind::Unknown, field));
-        }
-        enter(terms, u.0, q);
-        Ok(None)
+        self.define(terms, u.0, unknown)
     }
 
     // Takes the line, which collects an element.
@@ -89,16 +95,8 @@ impl LineAt<'_> {
     {
         let q = self.p + SAYS;
         let v = element_at(self.tape, q, OF);
-        let collected = entry(elements, v.0);
-        if collected.is_some() {
-            return Err(self.refusal(Kind::Twice, FIRST_FIELD));
-        }
         let unknown = element_use(self.tape, q, terms);
-        if let Some(field) = unknown {
-            return Err(self.refusal(Kind::Unknown, field));
-        }
-        enter(elements, v.0, q);
-        Ok(None)
+        self.define(elements, v.0, unknown)
     }
 
     // Takes the line, which states a theory atom.

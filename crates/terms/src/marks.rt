@@ -3,13 +3,14 @@ ghost use Rattle.std.specs.Prelude.{◌≡◌, false, ◌&&◌, ◌||◌, not, �
 ghost use Rattle.basics.specs.Lists.{among};
 ghost use Rattle.faults.specs.inner.Places.{atom_places, term_places, far_place};
 ghost use Rattle.aspif.specs.Statements.{rule_in};
-ghost use Rattle.aspif.specs.inner.Words.{words_from, says_at, lines_of};
-ghost use Rattle.aspif.specs.inner.Kept.{LineOn, Ahead};
+ghost use Rattle.aspif.specs.inner.Words.{words_from, says_at};
+ghost use Rattle.aspif.specs.inner.Kept.{LineOn};
+ghost use Rattle.aspif.specs.inner.Values.{lines_in};
 ghost use Rattle.terms.specs.Says.{head_in, headed};
 ghost use Rattle.terms.specs.inner.Marks.{MarksThose, Remarked, xs_of, ys_of};
 
 use aspif::kinds::RULE;
-use aspif::walk::{after_at, atom_at, word_at};
+use aspif::walk::{Lines, atom_at, word_at};
 use aspif::words::{FIRST_HEAD, HEADS, SAYS};
 use diffs::Difference;
 use faults::{ATOM_PLACES, TERM_PLACES};
@@ -71,23 +72,20 @@ fn clear_line(tape: &[u32], p: usize, bits: &mut [u8])
     clear_list(tape, from, n, bits);
 }
 
-// Takes the marks of the atoms that stand in a rule head of the n lines away.
-fn clear_heads(tape: &[u32], n: usize, bits: &mut [u8])
-    requires { Ahead tape.now 0 n }
-    ensures { Remarked bits.old bits.new (λ b a. b && not (headed (lines_of tape.now n) a)) }
+// Takes the marks of the atoms that stand in a rule head of the lines away.
+fn clear_heads(lines: Lines, bits: &mut [u8])
+    ensures { Remarked bits.old bits.new (λ b a. b && not (headed (lines_in lines.entry) a)) }
 {
-    let mut p = 0;
-    for _ in 0..n {
-        clear_line(tape, p, bits);
-        p = after_at(tape, p);
+    for p in lines.places() {
+        clear_line(lines.tape, p, bits);
     }
 }
 
-// Marks the external atoms among the atoms of the differences that the n lines state, in a bitmap that marks none.
-pub fn externals(tape: &[u32], n: usize, atoms: &[u32], ext: &mut [u8; ATOM_PLACES])
-    requires { Ahead tape.now 0 n × MarksThose atom_places ext.old (λ a. false) }
-    ensures { MarksThose atom_places ext.new (λ a. among a atoms.now && not (headed (lines_of tape.now n) a)) }
+// Marks the external atoms among the atoms of the differences that the lines state, in a bitmap that marks none.
+pub fn externals(lines: Lines, atoms: &[u32], ext: &mut [u8; ATOM_PLACES])
+    requires { MarksThose atom_places ext.old (λ a. false) }
+    ensures { MarksThose atom_places ext.new (λ a. among a atoms.now && not (headed (lines_in lines.entry) a)) }
 {
     mark_all(atoms, ext);
-    clear_heads(tape, n, ext);
+    clear_heads(lines, ext);
 }

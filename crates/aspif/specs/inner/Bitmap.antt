@@ -1,5 +1,5 @@
 -- Inner: a candidate as a bitmap. Assumes nothing.
-use Rattle.std.specs.Prelude.{ℕ, ◌+◌, ◌≤◌, ◌≡◌, true, ◌⊎◌, List, length, get_or}
+use Rattle.std.specs.Prelude.{ℕ, ◌+◌, ◌≤◌, ◌<◌, ◌≡◌, true, List, length, get_or}
 use Rattle.basics.specs.inner.Bitmaps.{is_marked, marks, NoneFrom}
 use Rattle.faults.specs.Limits.{last_atom}
 use Rattle.faults.specs.inner.Places.{atom_places}
@@ -18,4 +18,4 @@ pub record EndsAt (last : ℕ) (x : List ℕ) : Type 0 where
   pub places : length x ≡ atom_places
   pub small : last ≤ last_atom
   pub none : NoneFrom (last + 1) x
-  pub marked : (last ≡ 0) ⊎ (is_marked x last ≡ true)
+  pub marked : 0 < last → is_marked x last ≡ true

@@ -9,10 +9,12 @@ use Rattle.fields.specs.Reading.{Reading}
 use Rattle.fields.specs.declared.Cursor.{Cursor}
 use Rattle.fields.specs.inner.Values.{as_field}
 use Rattle.aspif.specs.Statements.{Line}
-use Rattle.aspif.specs.inner.Words.{all_words}
+use Rattle.aspif.specs.inner.Words.{all_words, lines_of, places_from}
 use Rattle.aspif.specs.inner.Kept.{Ahead}
 use Rattle.aspif.specs.inner.Bitmap.{atoms_of, EndsAt}
 use Rattle.aspif.specs.declared.lines.Header.{Header}
+use Rattle.aspif.specs.declared.walk.Lines.{Lines}
+use Rattle.aspif.specs.declared.walk.Places.{Places}
 
 abbrev pub as_header : Result (Header × Cursor) Refusal → Reading Header
 as_header r = as_field r
@@ -36,6 +38,14 @@ taped t (refused k p) = refused k p
 abbrev pub taped_if : Result ℕ Refusal → List ℕ → Type 0
 taped_if (Ok n) t = Ahead t 0 n
 taped_if (Err r) t = Unit {0}
+
+-- what lines on a tape say
+abbrev pub lines_in : Lines → List Line
+lines_in l = lines_of l.tape.now l.count
+
+-- the places that are left
+abbrev pub places_left : Places → List ℕ
+places_left s = places_from s.tape.now s.at s.left
 
 -- with what the bitmap holds then
 abbrev pub as_marked : Result AtomNo Refusal → List ℕ → Answer (List ℕ)

@@ -152,6 +152,15 @@ unfoldable pub lines_from : List ℕ → (p n : ℕ) → List Line
 lines_from t p zero = []
 lines_from t p (suc n) = line_at t p ∷ lines_from t (after t p) n
 
+-- the place of line i of a tape, and those of n lines from p on
+abbrev pub place_of : List ℕ → (i : ℕ) → ℕ
+place_of t zero = 0
+place_of t (suc i) = after t (place_of t i)
+
+unfoldable pub places_from : List ℕ → (p n : ℕ) → List ℕ
+places_from t p zero = []
+places_from t p (suc n) = p ∷ places_from t (after t p) n
+
 -- the n lines of a tape
 abbrev pub lines_of : List ℕ → (n : ℕ) → List Line
 lines_of t n = lines_from t 0 n

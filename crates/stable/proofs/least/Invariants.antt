@@ -7,7 +7,7 @@ use Rattle.stable.proofs.Rounds.{Between}
 use Rattle.stable.proofs.least.Given as goal
 
 abbrev pub invariant-loop : goal.invariant-loop
-invariant-loop l = Between (is_marked l.x) (is_marked l.ext) l.tape l.index l.found
+invariant-loop l = Between (is_marked l.x.marks.now) (is_marked l.ext) l.tape l.index l.found
 
 abbrev pub decreases-loop : goal.decreases-loop
 decreases-loop l = atom_places - marked_count l.found

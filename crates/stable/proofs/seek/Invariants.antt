@@ -3,4 +3,4 @@ use Rattle.stable.proofs.Seeking.{Seen}
 use Rattle.stable.proofs.seek.Given as goal
 
 abbrev pub invariant-loop-a : goal.invariant-loop-a
-invariant-loop-a l = Seen l.x l.found l.a
+invariant-loop-a l = Seen l.x.marks.now l.found l.a

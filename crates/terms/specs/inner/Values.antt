@@ -1,5 +1,5 @@
 -- Inner: what each case of an answer stands for, and what one line's turn does. Assumes nothing.
-use Rattle.std.specs.Prelude.{ℕ, ◌+◌, ◌*◌, ◌≤◌, ◌≡◌, List, ◌∷◌, length, Bool, Option, Some, None, Result, Ok, Err}
+use Rattle.std.specs.Prelude.{ℕ, ◌+◌, ◌*◌, ◌≤◌, ◌≡◌, ◌≢◌, List, ◌∷◌, length, set, Bool, Option, Some, None, Result, Ok, Err}
 use Rattle.std.proofs.Math.Option.{some, none}
 use Rattle.std.proofs.Math.Option as math
 use Rattle.faults.specs.Limits.{longest_text}
@@ -7,7 +7,10 @@ use Rattle.faults.specs.Answer.{Answer, got, refused, bind}
 use Rattle.faults.specs.Values.{number}
 use Rattle.faults.specs.declared.AtomNo.{AtomNo}
 use Rattle.faults.specs.declared.TermNo.{TermNo}
+use Rattle.faults.specs.declared.Kind.{Kind}
+use Rattle.faults.specs.declared.Kind.TheVariants as kind
 use Rattle.faults.specs.declared.Refusal.{Refusal}
+use Rattle.fields.specs.Fields.{field_place}
 use Rattle.aspif.specs.Statements.{Line}
 use Rattle.aspif.specs.inner.Words.{word, line_at, after}
 use Rattle.aspif.specs.inner.Kept.{LineOn}
@@ -15,7 +18,7 @@ use Rattle.diffs.specs.Diff.{Diff}
 use Rattle.diffs.specs.inner.Answer.{said}
 use Rattle.diffs.specs.declared.Difference.{Difference}
 use Rattle.terms.specs.Terms.{Pair, Stated, more}
-use Rattle.terms.specs.inner.Tables.{role_of, env_of, walk, held_at, tabulated}
+use Rattle.terms.specs.inner.Tables.{role_of, place_in, env_of, walk, held_at, tabulated}
 use Rattle.terms.specs.declared.lines.Role.{Role}
 use Rattle.terms.specs.declared.lines.LineAt.{LineAt}
 
@@ -23,6 +26,11 @@ use Rattle.terms.specs.declared.lines.LineAt.{LineAt}
 abbrev pub as_option : {A : Type 0} → Option A → math.Option A
 as_option None = none
 as_option (Some a) = some a
+
+-- the place of the statement of that kind that defines the number u in a table; or none, where it is of another kind or there is none
+abbrev pub OfKind : (t table : List ℕ) (u kind : ℕ) → Option ℕ → Type 0
+OfKind t table u kind None = (q : ℕ) → Some q ≡ place_in table u → word t q ≢ kind
+OfKind t table u kind (Some q) = (Some q ≡ place_in table u) × (word t q ≡ kind)
 
 -- two sides, or none
 abbrev pub as_sides : Option (TermNo × TermNo) → math.Option Pair
@@ -69,6 +77,17 @@ abbrev pub as_turn : Turn → Answer (math.Option Stated)
 as_turn (Ok None) = got none
 as_turn (Ok (Some s)) = got (some (record { atom = s.0.0; says = said s.1 }))
 as_turn (Err r) = refused (number r.kind) r.place
+
+-- the refusal of the line at p, placed at one of its fields
+abbrev pub refusal_at : (text t : List ℕ) (p : ℕ) → Kind → (field : ℕ) → Refusal
+refusal_at text t p k f = record { kind = k; place = field_place text f (word t p) }
+
+-- what the line at p, which defines the number u, does to its table: refused where u has an entry before, or else where the line uses what is
+-- unknown; or else u is entered
+abbrev pub Defines : (text t : List ℕ) (p : ℕ) (table : List ℕ) (u : ℕ) (before unknown : Option ℕ) → Turn → (table' : List ℕ) → Type 0
+Defines text t p table u (Some q) x r table' = (r ≡ Err (refusal_at text t p kind.Twice 0)) × (table' ≡ table)
+Defines text t p table u None (Some f) r table' = (r ≡ Err (refusal_at text t p kind.Unknown f)) × (table' ≡ table)
+Defines text t p table u None None r table' = (r ≡ Ok None) × (table' ≡ set table u (p + 2 + 1))
 
 -- a line of that role, on a tape whose places a table can hold
 pub record LineFor (r : Role) (l : LineAt) : Type 0 where

@@ -1,7 +1,7 @@
 -- `body_true`: by the kind of the body, all of its literals, or its bound. Assumes nothing.
 use mathlib.Core.Path.{◌∙◌}
 use Rattle.stable.proofs.Bodies.{small-literals, small-premises, normal-same, weights-same}
-use Rattle.stable.proofs.body_true.Goals as goal
+use Rattle.stable.proofs.Truth.body_true.Goals as goal
 
 pub all_true-requires : goal.all_true-requires
 all_true-requires c = record { small = small-literals _ _ c.list_at-list.ensures c.requires.body_on c.if-tape-at-eq-NORMAL.true }
