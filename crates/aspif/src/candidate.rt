@@ -70,6 +70,8 @@ fn ascending(c: Cursor, s: &[u8], x: &mut [u8; ATOM_PLACES]) -> Result<AtomNo, R
 }
 
 // The atoms of the candidate, marked in a blank bitmap, and the last of them, 0 where there is none; or 7.
+// Kept: 0 and not an option; no atom is 0, and what goes up to the last atom goes up to 0 as to any other.
+// Kept: a clause says that the bitmap is blank, here, in `ascending` and in `before_times`; the caller lends it, and the first mark ends what a type would say.
 pub fn candidate(s: &[u8], x: &mut [u8; ATOM_PLACES]) -> Result<AtomNo, Refusal>
     requires { Blank x.old }
     ensures x_after { as_marked result x.new ≡ candidate s.now }

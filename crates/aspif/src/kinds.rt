@@ -5,6 +5,9 @@ pub const RULE: u32 = 1;
 
 pub const OUTPUT: u32 = 4;
 
+// A theory statement, whose kind on the tape is one of those below.
+pub const THEORY: u32 = 9;
+
 pub const COMMENT: u32 = 10;
 
 // A term: a number, a string, a compound.

@@ -11,6 +11,7 @@ ghost use Rattle.aspif.specs.Grammar.{answer, first_line, last_line, statement_o
 ghost use Rattle.aspif.specs.inner.Words.{words_of, lines_of};
 ghost use Rattle.aspif.specs.inner.Values.{as_header, as_tape, taped, taped_if};
 
+use crate::kinds::{COMMENT, OUTPUT, RULE, THEORY};
 use crate::rules::{comment_line, output_line, rule_line};
 use crate::tape::head_line;
 use crate::theory::theory_part;
@@ -58,16 +59,16 @@ fn statement_of(
     ensures { as_wrote result tape.new ≡ on_tape words_of tape.old at.out (statement_of ends k place s.now at.cursor.at) }
 {
     match k {
-        1 => rule_line(at, s, tape),
-        4 => output_line(at, s, tape),
-        9 => theory_part(at, s, tape),
-        10 => comment_line(at, s, ends, tape),
+        RULE => rule_line(at, s, tape),
+        OUTPUT => output_line(at, s, tape),
+        THEORY => theory_part(at, s, tape),
+        COMMENT => comment_line(at, s, ends, tape),
         _ => Err(Kind::Carried.at(place)),
     }
 }
 
 // At most n lines behind the first, of which the line `0` is the last, on the tape from its start on; and how many they are.
-// Kept: cursor and place are two locals; the kit takes a `Progress` that is built in a function with a loop apart, and the loop's invariant can't name its fields.
+// Kept: cursor and place are two locals; as one `Progress` it was tried, and the loop's invariant could not name the fields of a value that is built in the loop.
 pub fn lines(
     c: Cursor,
     s: &[u8],

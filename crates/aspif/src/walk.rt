@@ -63,15 +63,12 @@ impl<'a> Iterator for Places<'a> {
 }
 
 // The word at p + k, or 0 past the end.
-// Kept: tape and place apart, here and above; the definitions that contracts cite (`word`, `says_at`) take them so, and a table of terms has places alone.
+// Kept: tape and place apart, here and above; the tables of terms and elements have places alone, and a type of both would be made anew at each.
 #[tactic(auto, using(crate::proofs::Walking::word_out), unfolding(crate::specs::inner::Words::word))]
 pub fn word_at(tape: &[u32], p: usize, k: usize) -> u32
     ensures { (result ≡ word tape.now (p + k)) × (result < 4294967296) }
 {
-    match tape.get(p.saturating_add(k)) {
-        Some(w) => *w,
-        None => 0,
-    }
+    tape.get(p.saturating_add(k)).copied().unwrap_or(0)
 }
 
 // Kept: each of the three is one line; one generic function takes a trait with three impls, and names the type at each call.

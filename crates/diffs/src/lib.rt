@@ -38,6 +38,7 @@ fn up_of(k: i32) -> u64
 }
 
 // What the bound k takes away: -k, or 0 where it is not below 0.
+// Kept: one line beside that of `up_of`.
 fn down_of(k: i32) -> u64
     ensures { result ≡ down k }
 {

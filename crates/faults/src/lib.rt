@@ -1,8 +1,9 @@
 // The vocabulary of docs/RULES.md: the kinds of refusal, a refusal with its place, the three countings.
 #![tactic(auto)]
 
-ghost use Rattle.std.specs.Prelude.{◌≡◌};
-ghost use Rattle.faults.specs.Values.{number, Numbered};
+ghost use Rattle.std.specs.Prelude.{◌≡◌, ◌++◌, Some, codes};
+ghost use Rattle.std.specs.Fmt.{decimal};
+ghost use Rattle.faults.specs.Values.{number, Numbered, refusal_text};
 
 use std::error::Error;
 use std::fmt;
@@ -120,6 +121,9 @@ impl TryFrom<u32> for Kind {
 }
 
 impl fmt::Display for NoKind {
+    ghost output = { λ e. Some (codes "no refusal has number " ++ decimal e.0) };
+
+    // Writes that no refusal has the number.
     fn fmt<W: fmt::Write>(&self, f: &mut fmt::Formatter<W>) -> fmt::Result {
         write!(f, "no refusal has number {}", self.0)
     }
@@ -135,6 +139,9 @@ pub struct Refusal {
 }
 
 impl fmt::Display for Refusal {
+    ghost output = { λ r. Some (refusal_text r) };
+
+    // Writes `refused`, the number and the place, a space between.
     fn fmt<W: fmt::Write>(&self, f: &mut fmt::Formatter<W>) -> fmt::Result {
         write!(f, "refused {} {}", self.kind.number(), self.place)
     }

@@ -82,11 +82,6 @@ stopped words t o (fault i p) {k} {q} e =
     let z : p ≡ q = (cc) in
     rw (y, z)
 
--- a fault leaves no words
-pub on_fault : {A : Type 0} (words : A → List ℕ) (t : List ℕ) (o k q : ℕ) → fault k q ≡ on_tape words t o (fault k q)
-unfolding on_tape
-on_fault words t o k q = refl
-
 -- the words so far: the tape t with the words ws from o on is t', whose next place is o'
 pub record On (t : List ℕ) (o : ℕ) (ws : List ℕ) (t' : List ℕ) (o' : ℕ) : Type 0 where
   pub tape : t' ≡ sets t o ws

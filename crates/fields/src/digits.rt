@@ -10,6 +10,7 @@ use crate::ends::{breaks_at, run_end};
 use crate::{LineEnd, SPACE, ZERO_DIGIT};
 
 // The value of digits, or one more than the most that is asked where it is beyond that, and where they end.
+// Kept: a number and not an option; the digits go on behind the first that is beyond, and one `min` says what both are.
 #[derive(Clone, Copy)]
 pub(crate) struct Digits {
     pub(crate) value: u32,
@@ -17,6 +18,7 @@ pub(crate) struct Digits {
 }
 
 // The byte at `at`, or 0 past the end.
+// Kept: a place and not a cursor, here, in ends.rt and in places.rt; `part_end` and `field_place`, which docs/CONTRACTS.md names, are asked of places where no cursor stands.
 pub(crate) fn peek(s: &[u8], at: usize) -> u8
     ensures { result ≡ byte_at s.now at }
 {

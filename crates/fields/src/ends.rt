@@ -22,6 +22,7 @@ fn ends_line(s: &[u8], at: usize) -> bool
 }
 
 // Whether the byte `b` stands at `at`, or a line is over there, of a text whose lines end as `ends` says.
+// Kept: how lines end goes beside the text, here and in what calls it; the definitions `breaks_at`, `line_end_of` and `rest` take them apart.
 pub(crate) fn breaks_at(s: &[u8], at: usize, b: u8, ends: LineEnd) -> bool
     ensures { result ≡ breaks_at b ends (drop at s.now) }
 {

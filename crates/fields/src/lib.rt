@@ -40,7 +40,7 @@ pub struct Cursor {
 }
 
 // How far reading and writing have come: the cursor, and the next place of the tape. No more words were written than bytes read.
-// Kept: text and tape go beside, and each contract says that the tape is as long; one that held the tape would have to say at each return, refusals too, that its slice keeps its length, which a lent slice says of itself.
+// Kept: text and tape go beside, and each contract says that the tape is as long, five that the text is not too long; one that held the tape would have to say at each return, refusals too, that its slice keeps its length, which a lent slice says of itself.
 #[derive(Clone, Copy, Debug, PartialEq, Eq)]
 pub struct Progress {
     pub cursor: Cursor,

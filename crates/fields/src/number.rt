@@ -106,7 +106,7 @@ impl Cursor {
     }
 
     // The natural at the cursor, at most `most`, and refused as `beyond` where it is more.
-    // Kept: a clause bounds `most` here and in the three that call this; a type for it would be made of a constant at every call.
+    // Kept: a clause bounds `most` here, in `digits_at`, `next_natural`, `natural_then` and `from_one`, and the refusal beyond it goes beside; a type of both would be made of two constants at every call.
     pub fn natural(self, s: &[u8], most: u32, beyond: Kind) -> Field<u32>
         requires { most ≤ largest_bound }
         ensures { as_word result ≡ natural (number beyond) most s.now self.at }
@@ -224,6 +224,7 @@ impl Cursor {
     }
 
     // A space, and the element number after it.
+    // Kept: two lines beside those of `next_term`; one generic function takes a trait with two impls, and names the type at each call.
     pub fn next_element(self, s: &[u8]) -> Field<ElementNo>
         ensures { as_element result ≡ next_element s.now self.at }
     {

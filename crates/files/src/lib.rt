@@ -27,6 +27,7 @@ fn read_full<F: Read>(file: &mut F, buf: &mut [u8]) -> usize
 }
 
 // The first bytes of a file, at the start of a buffer, and how many they are; none if it can't be opened or read, as where its path is no text.
+// Kept: a count of a lent buffer, since nothing is allocated; 0 and no error, since what can't be read counts as empty (docs/RULES.md).
 pub fn load<R: Files>(rt: &R, path: &[u8], buf: &mut [u8]) -> usize
     ensures { IsPrefixLen result buf.new }
 {

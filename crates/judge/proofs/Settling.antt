@@ -19,7 +19,7 @@ use Rattle.timetable.specs.inner.Given.{time_at}
 use Rattle.judge.specs.Plan.{Rooms, Ready, Held, InForce}
 use Rattle.judge.specs.Judged.{accepting, showing, table, Each, NegativeCycle, Timed}
 use Rattle.judge.specs.Values.{rooms}
-use Rattle.terms.specs.inner.Marks.{MarksThose, xs_of, ys_of}
+use Rattle.terms.specs.inner.Marks.{MarksThose, x_numbers, y_numbers}
 use Rattle.terms.proofs.Naming.{names-are}
 use Rattle.judge.specs.inner.Stages.{stated, Stating, Candidate, ready_at, in_force, Settled, cycle_shown, table_written, as_judged}
 use Rattle.judge.proofs.Bitmaps.{marked-atoms}
@@ -88,7 +88,7 @@ shown-room b n c labels cycle k s = rw (length-map s.numbers (cell labels), s.sh
 module _ (ls : List Line) (atoms : List ℕ) (ds : List Difference) (h : Stating ls atoms ds)
     (x : List ℕ) (cand : Candidate x) (labels : List ℕ) (gathered : List Difference) (alike : length labels ≡ length gathered)
     (g : stated labels gathered ≡ in_force x (stated atoms ds))
-    (names : List ℕ) (e : MarksThose term_places names (λ i. among i (xs_of ds) || among i (ys_of ds))) (b : Rooms) (r : judged.Result) where
+    (names : List ℕ) (e : MarksThose term_places names (λ i. among i (x_numbers ds) || among i (y_numbers ds))) (b : Rooms) (r : judged.Result) where
   -- 10, 11 or the timetable of the plan
   pub settled-timed : Settled gathered labels names x b r → Timed (ready_at ls x) b r
   unfolding marked_from

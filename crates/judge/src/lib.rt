@@ -32,7 +32,7 @@ const SHORT_DIFFERENCES: usize = 223;
 const LONG_DIFFERENCES: usize = 6667;
 
 // The verdict: accepted, with the timetable's length; or refused, with its kind and place.
-// Kept: an own enum, and not a result, since document 01 names this form of the verdict.
+// Kept: an own enum, a form that was asked for (docs/DECISIONS.md, Forms); `as_verdict`, `as_result` and `judge_unique` speak of it.
 #[derive(Clone, Copy, Debug, PartialEq, Eq)]
 pub enum Verdict {
     Accepted(usize),
@@ -94,7 +94,7 @@ fn before_times(
 }
 
 // The timetable's length or the refusal, of any text, with a tape and slices of these sizes.
-// Kept: both rooms beside one another, as they are lent; a type of two `&mut` would have to say of each that it is still the caller's.
+// Kept: text and candidate, and both rooms, beside one another, here, above and below, as the C interface lends them; a type of two `&mut` would have to say of each that it is still the caller's.
 fn judged_within<const WORDS: usize, const DIFFERENCES: usize>(
     text: &[u8],
     cand: &[u8],

@@ -16,14 +16,12 @@ use judge::Verdict;
 // A half holds the numbers below this.
 const HALF: u64 = 4294967296;
 
-// The largest of them.
-const LARGEST_HALF: u32 = 4294967295;
-
 // One number above, the other below.
+// Kept: numbers in place of verdicts and kinds, the C interface.
 fn pack(above: u32, below: u32) -> u64
     ensures { result ≡ above * half + below }
 {
-    above as u64 * HALF + below as u64
+    u64::from(above) * HALF + u64::from(below)
 }
 
 // A refusal's number above, its place below.
@@ -39,7 +37,7 @@ fn pack_refusal(refusal: Refusal) -> u64
 fn half_of(length: usize) -> u32
     ensures { result ≡ min length largest_half }
 {
-    length.min(LARGEST_HALF as usize) as u32
+    u32::try_from(length).unwrap_or(u32::MAX)
 }
 
 // The length of the part that is shown for a number and a place.

@@ -11,19 +11,15 @@ ghost use Rattle.judge.specs.Values.{as_verdict, rooms};
 ghost use Rattle.report.specs.Report.{decimal, spaced, two, spaced_all, list_line, record_line, record_lines, accepted_lines, refused_lines, printed, Reported};
 ghost use Rattle.report.specs.inner.Steps.{Put, RoomAt, Legible, Reportable};
 
-use faults::{CYCLE_ROOM, Refusal, TABLE_ROOM, TermNo};
+use faults::{CYCLE_ROOM, Kind, Refusal, TABLE_ROOM, TermNo};
 use judge::Verdict;
 use timetable::{HEADER, word_at};
-
-// The refusal that has a list.
-// Kept: by its number, as the definition `refused_lines` has it.
-const LISTED: u32 = 10;
 
 // The bytes of a record: its name and its time, four bytes each.
 const RECORD: usize = 8;
 
 // Writes some bytes at a place, and gives the place after them.
-// Kept: the place beside the buffer, as `RoomAt` and `Put` name both; std's writer over `&mut [u8]` states nothing of its bytes, so `write!` can't promise these.
+// Kept: the place beside the buffer, as `RoomAt` and `Put` name both; std's writers over slices give no `contents`, so `write!` can't promise the bytes.
 fn put(out: &mut [u8], at: usize, part: &[u8]) -> usize
     requires { RoomAt part.now out.old at }
     ensures { Put part.now out.old at out.new result }
@@ -133,7 +129,7 @@ fn put_refused(out: &mut [u8], refusal: Refusal, cycle: &[u32]) -> usize
     let place = refusal.place;
     let a = put(out, 0, b"refused");
     let b = put_two(out, a, u64::from(number), place as u64);
-    if number != LISTED {
+    if refusal.kind != Kind::Cycle {
         return b;
     }
     let end = place.min(cycle.len());

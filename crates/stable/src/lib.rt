@@ -178,6 +178,7 @@ fn add_chosen(heads: &[u32], x: &[u8; ATOM_PLACES], found: &mut [u8; ATOM_PLACES
 }
 
 // How many atoms are new by the rule at q: its heads, where its body is true by x and the atoms found.
+// Kept: the atoms found beside x, here and in what is called; they are lent to change, so they can't stand in `Truth`.
 fn fire(tape: &[u32], q: usize, x: &[u8; ATOM_PLACES], found: &mut [u8; ATOM_PLACES]) -> usize
     requires rule_on { RuleOn tape.now q }
     ensures { AddedMarks (fires (is_marked x.now) (is_marked found.old) (rule_at tape.now q)) found.old found.new result }
@@ -207,6 +208,7 @@ fn round(tape: &[u32], index: &[u32], x: &[u8; ATOM_PLACES], found: &mut [u8; AT
 }
 
 // The external atoms in x, as the first atoms found.
+// Kept: the external atoms beside the candidate, here and below; a type of both would be made for the one call of `smallest_unfounded`.
 fn facts(ext: &[u8; ATOM_PLACES], x: Atoms, found: &mut [u8; ATOM_PLACES])
     requires blank { Blank found.old }
     ensures { Both ext.now x.entry.marks.now found.new }

@@ -26,7 +26,7 @@ use Rattle.aspif.proofs.Decoding.{not-rule}
 use Rattle.diffs.specs.inner.Answer.{zero_difference}
 use Rattle.diffs.specs.declared.Difference.{Difference}
 use Rattle.terms.specs.Says.{head_in, headed}
-use Rattle.terms.specs.inner.Marks.{MarksThose, Remarked, xs_of, ys_of}
+use Rattle.terms.specs.inner.Marks.{MarksThose, Remarked, x_numbers, y_numbers}
 
 -- ---- one mark
 
@@ -76,7 +76,7 @@ marking_next {list} {l₀} {l} {i} l' h e r =
 
 -- what stands as x or y
 abbrev side_in : List Difference → ℕ → Bool
-side_in ds a = among a (xs_of ds) || among a (ys_of ds)
+side_in ds a = among a (x_numbers ds) || among a (y_numbers ds)
 
 pub record Siding (ds : List Difference) (l₀ l : List ℕ) (i : ℕ) : Type 0 where
   pub done : Remarked l₀ l (λ b a. b || side_in (take i ds) a)
@@ -91,9 +91,9 @@ two_more false false true true y = refl
 two_more false false true false y = refl
 two_more false false false x y = refl
 
-side_more : (ds : List Difference) (d : Difference) (a : ℕ) → side_in (ds ++ (d ∷ [])) a ≡ (among a (xs_of ds) || eqb a d.x.0) || (among a (ys_of ds) || eqb a d.y.0)
+side_more : (ds : List Difference) (d : Difference) (a : ℕ) → side_in (ds ++ (d ∷ [])) a ≡ (among a (x_numbers ds) || eqb a d.x.0) || (among a (y_numbers ds) || eqb a d.y.0)
 side_more ds d a =
-    rw (map-append (λ (d : Difference). d.x.0) ds (d ∷ []), map-append (λ (d : Difference). d.y.0) ds (d ∷ []), among-append a (xs_of ds) (d.x.0 ∷ []), among-append a (ys_of ds) (d.y.0 ∷ []), or_none (eqb a d.x.0), or_none (eqb a d.y.0))
+    rw (map-append (λ (d : Difference). d.x.0) ds (d ∷ []), map-append (λ (d : Difference). d.y.0) ds (d ∷ []), among-append a (x_numbers ds) (d.x.0 ∷ []), among-append a (y_numbers ds) (d.y.0 ∷ []), or_none (eqb a d.x.0), or_none (eqb a d.y.0))
 
 pub siding-next : {ds : List Difference} {l₀ l : List ℕ} {i : ℕ} (m l' : List ℕ) (d : Difference) → i < length ds → d ≡ get_or ds i zero_difference
     → m ≡ set l d.x.0 1 → l' ≡ set m d.y.0 1 → Siding ds l₀ l i → Siding ds l₀ l' (i + 1)
@@ -103,7 +103,7 @@ siding-next {ds} {l₀} {l} {i} m l' d h ed em el r =
       done = record {
         each = λ a w.
             rw (el, marked-set m d.y.0 1 a (omega (arith, k, r.same)), pick_true (eqb a d.y.0) (is_marked m a), em, marked-set l d.x.0 1 a (omega (arith, r.same)), pick_true (eqb a d.x.0) (is_marked l a), r.done.each a w, add-one i, take-suc ds i zero_difference h, ← ed, side_more (take i ds) d a)
-            (two_more (is_marked l₀ a) (among a (xs_of (take i ds))) (among a (ys_of (take i ds))) (eqb a d.x.0) (eqb a d.y.0));
+            (two_more (is_marked l₀ a) (among a (x_numbers (take i ds))) (among a (y_numbers (take i ds))) (eqb a d.x.0) (eqb a d.y.0));
       };
       same = ap length el ∙ length-set m d.y.0 1 ∙ k ∙ r.same;
       within = omega arith;

@@ -27,7 +27,7 @@ use Rattle.diffs.specs.declared.Difference.{Difference}
 use Rattle.terms.specs.Says.{Name, Names, headed}
 use Rattle.terms.specs.Terms.{Stated, Lists, states_in, taken, external}
 use Rattle.terms.specs.inner.Tables.{held_at, tabulated, States}
-use Rattle.terms.specs.inner.Marks.{MarksThose, atoms_in, xs_in, ys_in, naming, xs_of, ys_of}
+use Rattle.terms.specs.inner.Marks.{MarksThose, atoms_in, xs_in, ys_in, naming, x_numbers, y_numbers}
 use Rattle.terms.proofs.ByKind.{Any}
 use Rattle.terms.proofs.Stating.{says-listed, listed-says, atoms-taken}
 use Rattle.terms.proofs.Bounds.{says-small}
@@ -56,10 +56,10 @@ module _ (atoms : List ℕ) (ds : List Difference) (m : ℕ) where
   held-atoms = tabulated-take (λ (s : Stated). s.atom) atoms 0 (held_at atoms ds) (λ i. refl) m
 
   -- and what they say
-  held_xs : m ≤ length ds → xs_in (tabulated m (held_at atoms ds)) ≡ xs_of (take m ds)
+  held_xs : m ≤ length ds → xs_in (tabulated m (held_at atoms ds)) ≡ x_numbers (take m ds)
   held_xs = saying (λ d. d.x) ds (λ (s : Stated). s.says.x) (held_at atoms ds) (λ i. refl) m
 
-  held_ys : m ≤ length ds → ys_in (tabulated m (held_at atoms ds)) ≡ ys_of (take m ds)
+  held_ys : m ≤ length ds → ys_in (tabulated m (held_at atoms ds)) ≡ y_numbers (take m ds)
   held_ys = saying (λ d. d.y) ds (λ (s : Stated). s.says.y) (held_at atoms ds) (λ i. refl) m
 
 -- ---- standing in a list
@@ -145,7 +145,7 @@ marked-within (b ∷ x) (suc n) h = omega (arith, marked-within x n h)
 module _ (ls : List Line) (atoms : List ℕ) (differences : List Difference) (m : ℕ) (h : States ls (tabulated m (held_at atoms differences))) where
   -- what `mark_names` marks are the names, ascending
   pub names-are : (names : List ℕ) → AllInRange ls → m ≤ length differences
-      → MarksThose term_places names (λ n. among n (xs_of (take m differences)) || among n (ys_of (take m differences))) → Names ls (marks 0 names)
+      → MarksThose term_places names (λ n. among n (x_numbers (take m differences)) || among n (y_numbers (take m differences))) → Names ls (marks 0 names)
   names-are names q l b =
       record {
         ascending = marks_ascend 0 names;
@@ -155,7 +155,7 @@ module _ (ls : List Line) (atoms : List ℕ) (differences : List Difference) (m 
             naming-name ls _ h n (sym (is n) ∙ sym (b.each n (rw b.places at (marked-within names n k))) ∙ k));
       }
     where
-      is : (n : ℕ) → among n (xs_of (take m differences)) || among n (ys_of (take m differences)) ≡ naming (tabulated m (held_at atoms differences)) n
+      is : (n : ℕ) → among n (x_numbers (take m differences)) || among n (y_numbers (take m differences)) ≡ naming (tabulated m (held_at atoms differences)) n
       is n = rw (held_xs atoms differences m l, held_ys atoms differences m l)
 
       small : (n : ℕ) → Name ls n → n < term_places

@@ -22,7 +22,7 @@ use Rattle.aspif.specs.inner.Words.{number_kind, string_kind, compound_kind, ele
 use Rattle.aspif.proofs.Walking.{word_out, first_word, words-length}
 use Rattle.terms.specs.Says.{diff_word, minus, at_most}
 use Rattle.terms.specs.Terms.{defined, same_bytes, is_string, is_minus, opposite, bound_of, pair_of, pair_in, joined, difference_of}
-use Rattle.terms.specs.inner.Tables.{is_term, minus_of, term_of, element_of, place_of, place_in, term_at, term_on, element_on, look_in, elements_in, difference_in, stated_on}
+use Rattle.terms.specs.inner.Tables.{is_term, minus_of, term_of, element_of, place_by, place_in, term_at, term_on, element_on, look_in, elements_in, difference_in, stated_on}
 use Rattle.terms.specs.inner.Values.{OfKind}
 use Rattle.terms.proofs.Signs.{back, fits_int, fits-opposite, term-half}
 use Rattle.terms.proofs.ByKind.{by_kind, number-says, string-says, compound_says, element_says, guarded_says}
@@ -39,7 +39,7 @@ pub place_is : (table : List ℕ) (u e : ℕ) (o : code.Option ℕ) → e ≡ ge
 unfolding word
 place_is table u e o q h = rw (← q) (go o e h)
   where
-    go : (o : code.Option ℕ) (e : ℕ) → SomeIff o (1 ≤ e) (e - 1) → o ≡ place_of e
+    go : (o : code.Option ℕ) (e : ℕ) → SomeIff o (1 ≤ e) (e - 1) → o ≡ place_by e
     go None zero h = refl
     go None (suc q) h = absurd (h (omega arith))
     go (Some x) zero h = absurd (omega (arith, h.0))

@@ -28,7 +28,7 @@ use Rattle.diffs.specs.inner.Answer.{said, zero_difference}
 use Rattle.diffs.specs.declared.Difference.{Difference}
 use Rattle.terms.specs.Terms.{Env, defined, difference_of, twice, second, not_difference, Stated, more}
 use Rattle.terms.specs.Reasons.{unknown_use, reason, reason_of}
-use Rattle.terms.specs.inner.Tables.{role_of, term_at, element_of, place_of, place_in, term_on, element_on, look_in, elements_in, env_of, difference_in, stated_on, changed, known_with, walk, held_at, tabulated, gather}
+use Rattle.terms.specs.inner.Tables.{role_of, term_at, element_of, place_by, place_in, term_on, element_on, look_in, elements_in, env_of, difference_in, stated_on, changed, known_with, walk, held_at, tabulated, gather}
 use Rattle.terms.specs.inner.Values.{as_option, difference_words, Turn, Defines, Turned}
 use Rattle.terms.specs.declared.lines.Role.TheVariants as role
 use Rattle.terms.proofs.ByKind.{role_does}
@@ -49,11 +49,11 @@ enter f l u m z h = fun_ext (λ v. go v (eqb v u) refl)
 module _ (t : List ℕ) (q : ℕ) where
   terms-entered : (terms : List ℕ) (u : ℕ) → u < length terms → look_in t (set terms u (q + 1)) ≡ changed (look_in t terms) u (some (term_at t q))
   unfolding look_in term_on word
-  terms-entered terms u h = enter (λ e. term_on t (place_of e)) terms u (q + 1) 0 h ∙ rw add-one
+  terms-entered terms u h = enter (λ e. term_on t (place_by e)) terms u (q + 1) 0 h ∙ rw add-one
 
   elements-entered : (els : List ℕ) (u : ℕ) → u < length els → elements_in t (set els u (q + 1)) ≡ changed (elements_in t els) u (some (element_of (theory_in (says_at t q))))
   unfolding elements_in element_on word
-  elements-entered els u h = enter (λ e. element_on t (place_of e)) els u (q + 1) 0 h ∙ rw add-one
+  elements-entered els u h = enter (λ e. element_on t (place_by e)) els u (q + 1) 0 h ∙ rw add-one
 
 seen-entered : (seen : List Bool) (u : ℕ) → u < length seen → (λ v. get_or (set seen u true) v false) ≡ changed (λ v. get_or seen v false) u true
 seen-entered seen u h = enter (λ b. b) seen u true false h

@@ -3,7 +3,7 @@ ghost use Rattle.std.specs.Prelude.{◌≡◌, ◌+◌, ◌≤◌, ◌<◌, leng
 ghost use Rattle.aspif.specs.Grammar.{integer_of};
 ghost use Rattle.terms.specs.Terms.{same_bytes, is_string, is_minus, opposite, bound_of, pair_of, pair_in, joined};
 ghost use Rattle.aspif.specs.inner.Words.{words_from};
-ghost use Rattle.terms.specs.inner.Tables.{is_term, minus_of, term_at, terms_of, elements_of, stated_on};
+ghost use Rattle.terms.specs.inner.Tables.{is_term, minus_of, term_at, terms_by, elements_by, stated_on};
 ghost use Rattle.terms.specs.inner.Values.{as_option, as_sides, as_said, OfKind};
 
 use crate::tables::{Known, entry};
@@ -66,7 +66,7 @@ impl Known<'_> {
     // Whether a term is the string wanted.
     fn named(&self, u: TermNo, wanted: &[u8]) -> bool
         requires { length wanted.now ≤ 8 }
-        ensures { result ≡ is_string wanted.now (terms_of self.now u.0) }
+        ensures { result ≡ is_string wanted.now (terms_by self.now u.0) }
     {
         let Some(q) = self.statement(self.terms, u.0, STRING) else {
             return false;
@@ -77,14 +77,14 @@ impl Known<'_> {
 
     // Whether a compound's t is the string `-`.
     fn is_minus(&self, t: u32) -> bool
-        ensures { result ≡ is_minus (terms_of self.now) (integer_of t) }
+        ensures { result ≡ is_minus (terms_by self.now) (integer_of t) }
     {
         is_term(t) && self.named(TermNo(t / 2), b"-")
     }
 
     // A numeric term, negated.
     fn against(&self, u: TermNo) -> Option<i32>
-        ensures { as_option result ≡ opposite (terms_of self.now u.0) }
+        ensures { as_option result ≡ opposite (terms_by self.now u.0) }
     {
         let q = self.statement(self.terms, u.0, NUMBER)?;
         let w = word_at(self.tape, q, VALUE);
@@ -93,7 +93,7 @@ impl Known<'_> {
 
     // Whether the statement at q defines a compound of `-` with `count` arguments.
     fn minus_of(&self, q: usize, count: u32) -> bool
-        ensures { result ≡ minus_of (terms_of self.now) count (term_at self.now.tape.now q) }
+        ensures { result ≡ minus_of (terms_by self.now) count (term_at self.now.tape.now q) }
     {
         let kind = word_at(self.tape, q, KIND);
         if kind != COMPOUND {
@@ -109,7 +109,7 @@ impl Known<'_> {
 
     // The bound that a term gives.
     fn bound(&self, u: TermNo) -> Option<i32>
-        ensures { as_option result ≡ bound_of (terms_of self.now) (terms_of self.now u.0) }
+        ensures { as_option result ≡ bound_of (terms_by self.now) (terms_by self.now u.0) }
     {
         let q = entry(self.terms, u.0)?;
         let kind = word_at(self.tape, q, KIND);
@@ -126,7 +126,7 @@ impl Known<'_> {
 
     // The two sides that a term has.
     fn pair(&self, u: TermNo) -> Option<(TermNo, TermNo)>
-        ensures { as_sides result ≡ pair_of (terms_of self.now) (terms_of self.now u.0) }
+        ensures { as_sides result ≡ pair_of (terms_by self.now) (terms_by self.now u.0) }
     {
         let q = entry(self.terms, u.0)?;
         if !self.minus_of(q, 2) {
@@ -139,7 +139,7 @@ impl Known<'_> {
 
     // The two sides in an element.
     fn pair_in(&self, v: ElementNo) -> Option<(TermNo, TermNo)>
-        ensures { as_sides result ≡ pair_in (terms_of self.now) (elements_of self.now v.0) }
+        ensures { as_sides result ≡ pair_in (terms_by self.now) (elements_by self.now v.0) }
     {
         let q = self.statement(self.elements, v.0, ELEMENT)?;
         let n = word_at(self.tape, q, TERMS);
@@ -156,7 +156,7 @@ impl Known<'_> {
 
     // The difference of the element v, with the term u as its bound.
     fn inside(&self, v: ElementNo, u: TermNo) -> Option<Difference>
-        ensures { as_said result ≡ joined (pair_in (terms_of self.now) (elements_of self.now v.0)) (bound_of (terms_of self.now) (terms_of self.now u.0)) }
+        ensures { as_said result ≡ joined (pair_in (terms_by self.now) (elements_by self.now v.0)) (bound_of (terms_by self.now) (terms_by self.now u.0)) }
     {
         let (x, y) = self.pair_in(v)?;
         let k = self.bound(u)?;

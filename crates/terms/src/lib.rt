@@ -19,7 +19,7 @@ mod tables;
 mod uses;
 
 // The differences that the lines of the text state, in order, in the first places of two slices; or 61 to 64.
-// Kept: the atoms in a slice of their own beside their differences; `diffs::decide` takes them as keys and as labels.
+// Kept: the atoms in a slice of their own beside their differences; `diffs::decide` takes them as keys and as labels. And a count beside both, which the judge moves in place.
 pub fn collect(
     text: &[u8],
     lines: Lines,

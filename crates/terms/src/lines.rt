@@ -19,6 +19,7 @@ use fields::field_place;
 const FIRST_FIELD: usize = 0;
 
 // What a line is for.
+// Kept: a case and not a closure; `LineFor` and the promises of `term_use`, `element_use` and `atom_use` say by it of which lines they speak.
 #[derive(Clone, Copy, Debug, PartialEq, Eq)]
 pub enum Role {
     Term,
@@ -89,6 +90,7 @@ impl LineAt<'_> {
     }
 
     // Takes the line, which collects an element.
+    // Kept: three lines beside those of `take_term`, which differ in what they call; `define` has what both do.
     fn take_element(&self, terms: &[u32], elements: &mut [u32; ELEMENT_PLACES]) -> Turn
         requires { LineFor role.Element self.now }
         ensures { (seen : List Bool) → Takes self.now terms.now elements.old seen result terms.now elements.new seen }

@@ -7,7 +7,7 @@ ghost use Rattle.aspif.specs.inner.Words.{words_from, says_at};
 ghost use Rattle.aspif.specs.inner.Kept.{LineOn};
 ghost use Rattle.aspif.specs.inner.Values.{lines_in};
 ghost use Rattle.terms.specs.Says.{head_in, headed};
-ghost use Rattle.terms.specs.inner.Marks.{MarksThose, Remarked, xs_of, ys_of};
+ghost use Rattle.terms.specs.inner.Marks.{MarksThose, Remarked, x_numbers, y_numbers};
 
 use aspif::kinds::RULE;
 use aspif::walk::{Lines, atom_at, word_at};
@@ -16,6 +16,7 @@ use diffs::Difference;
 use faults::{ATOM_PLACES, TERM_PLACES};
 
 // Writes a mark, 1 or 0, where there is a place for it.
+// Kept: a byte and not a truth value, as the promise of `timetable::write` takes marks.
 // Kept: a test and an index; once a borrow by `get_mut` is over, a proof knows no element of the slice.
 fn mark(bits: &mut [u8], n: u32, v: u8)
     ensures { bits.new ≡ set bits.old n v }
@@ -38,7 +39,7 @@ fn mark_all(list: &[u32], bits: &mut [u8])
 // Marks the names of differences, in a bitmap that marks none.
 pub fn mark_names(found: &[Difference], names: &mut [u8; TERM_PLACES])
     requires { MarksThose term_places names.old (λ n. false) }
-    ensures { MarksThose term_places names.new (λ n. among n (xs_of found.now) || among n (ys_of found.now)) }
+    ensures { MarksThose term_places names.new (λ n. among n (x_numbers found.now) || among n (y_numbers found.now)) }
 {
     for d in found {
         mark(names, d.x.0, 1);

@@ -13,9 +13,12 @@ use lib.ListN.{length, get_or, take, drop, length-take, length-drop}
 use lib.Seq.{get_or-take, get_or-drop}
 use Rattle.std.specs.Simd.{first_chunks}
 use Rattle.std.proofs.lemmas.List.{at_drop_more, drop_all}
-use Rattle.timetable.specs.inner.Given.{record_of, atom_of}
+use Rattle.timetable.specs.inner.Given.{record_read, atom_read}
 use Rattle.basics.proofs.Bools.{and_cases}
-use Rattle.faults.specs.Answer.{got, refused}
+use Rattle.faults.specs.Answer.{Answer, got, refused}
+use Rattle.std.specs.Prelude.{Option, Some, None, [], ◌∷◌, cond}
+use Rattle.std.specs.List.{find}
+use Rattle.basics.specs.Bools.{pick}
 use Rattle.faults.specs.Limits.{last_atom, last_term}
 use Rattle.timetable.specs.Word.{word_at}
 use Rattle.timetable.specs.Table.{Record, header_length, latest, ascends, times_fit, names_of, within, name_count, atom_count, records_at, atoms_at, content_of, is_table}
@@ -27,22 +30,22 @@ use Rattle.timetable.specs.Times.{time_among}
 unfoldable pub records_left : ℕ → List Record → Bool
 records_left low rs = ascends low last_term (names_of rs) && times_fit rs
 
-pub records_end : (low : ℕ) (bs : List (List ℕ)) (i : ℕ) → length bs ≤ i → true ≡ records_left low (map record_of (drop i bs))
+pub records_end : (low : ℕ) (bs : List (List ℕ)) (i : ℕ) → length bs ≤ i → true ≡ records_left low (map record_read (drop i bs))
 unfolding records_left ascends times_fit
 records_end low bs i h = rw (drop_all i bs h)
 
 module _ (bs : List (List ℕ)) (i : ℕ) (d : List ℕ) (h : i < length bs) (low x y : ℕ) (e : x ≡ word_at (get_or bs i d) 0) (f : y ≡ word_at (get_or bs i d) 4) where
-  records_step : leb low x && leb x last_term && ascends (x + 1) last_term (names_of (map record_of (drop (i + 1) bs))) && (leb y latest && times_fit (map record_of (drop (i + 1) bs)))
-      ≡ records_left low (map record_of (drop i bs))
+  records_step : leb low x && leb x last_term && ascends (x + 1) last_term (names_of (map record_read (drop (i + 1) bs))) && (leb y latest && times_fit (map record_read (drop (i + 1) bs)))
+      ≡ records_left low (map record_read (drop i bs))
   unfolding records_left ascends times_fit
-  records_step = rw (at_drop_more (map record_of) bs i d h, e, f)
+  records_step = rw (at_drop_more (map record_read) bs i d h, e, f)
 
-  pub records_out : (x < low) ⊎ (((low ≤ x) × (last_term < x)) ⊎ ((low ≤ x) × (x ≤ last_term) × (latest < y))) → false ≡ records_left low (map record_of (drop i bs))
+  pub records_out : (x < low) ⊎ (((low ≤ x) × (last_term < x)) ⊎ ((low ≤ x) × (x ≤ last_term) × (latest < y))) → false ≡ records_left low (map record_read (drop i bs))
   records_out (inl a) = rw (lt-leb low x a) at records_step
   records_out (inr (inl a)) = rw (le-leb low x a.0, lt-leb x last_term a.1) at records_step
   records_out (inr (inr a)) = rw (le-leb low x a.0, le-leb x last_term a.1, lt-leb y latest a.2, and-false) at records_step
 
-  pub records_on : low ≤ x → x ≤ last_term → y ≤ latest → records_left (x + 1) (map record_of (drop (i + 1) bs)) ≡ records_left low (map record_of (drop i bs))
+  pub records_on : low ≤ x → x ≤ last_term → y ≤ latest → records_left (x + 1) (map record_read (drop (i + 1) bs)) ≡ records_left low (map record_read (drop i bs))
   unfolding records_left
   records_on a b g = rw (le-leb low x a, le-leb x last_term b, le-leb y latest g) at records_step
 
@@ -52,38 +55,39 @@ module _ (bs : List (List ℕ)) (i : ℕ) (d : List ℕ) (h : i < length bs) (lo
 unfoldable pub atoms_left : ℕ → List ℕ → Bool
 atoms_left low xs = ascends low last_atom xs
 
-pub atoms_end : (low : ℕ) (bs : List (List ℕ)) (i : ℕ) → length bs ≤ i → true ≡ atoms_left low (map atom_of (drop i bs))
+pub atoms_end : (low : ℕ) (bs : List (List ℕ)) (i : ℕ) → length bs ≤ i → true ≡ atoms_left low (map atom_read (drop i bs))
 unfolding atoms_left ascends
 atoms_end low bs i h = rw (drop_all i bs h)
 
 module _ (bs : List (List ℕ)) (i : ℕ) (d : List ℕ) (h : i < length bs) (low x : ℕ) (e : x ≡ word_at (get_or bs i d) 0) where
-  atoms_step : leb low x && leb x last_atom && ascends (x + 1) last_atom (map atom_of (drop (i + 1) bs)) ≡ atoms_left low (map atom_of (drop i bs))
+  atoms_step : leb low x && leb x last_atom && ascends (x + 1) last_atom (map atom_read (drop (i + 1) bs)) ≡ atoms_left low (map atom_read (drop i bs))
   unfolding atoms_left ascends
-  atoms_step = rw (at_drop_more (map atom_of) bs i d h, e)
+  atoms_step = rw (at_drop_more (map atom_read) bs i d h, e)
 
-  pub atoms_out : (x < low) ⊎ ((low ≤ x) × (last_atom < x)) → false ≡ atoms_left low (map atom_of (drop i bs))
+  pub atoms_out : (x < low) ⊎ ((low ≤ x) × (last_atom < x)) → false ≡ atoms_left low (map atom_read (drop i bs))
   atoms_out (inl a) = rw (lt-leb low x a) at atoms_step
   atoms_out (inr a) = rw (le-leb low x a.0, lt-leb x last_atom a.1) at atoms_step
 
-  pub atoms_on : low ≤ x → x ≤ last_atom → atoms_left (x + 1) (map atom_of (drop (i + 1) bs)) ≡ atoms_left low (map atom_of (drop i bs))
+  pub atoms_on : low ≤ x → x ≤ last_atom → atoms_left (x + 1) (map atom_read (drop (i + 1) bs)) ≡ atoms_left low (map atom_read (drop i bs))
   unfolding atoms_left
   atoms_on a b = rw (le-leb low x a, le-leb x last_atom b) at atoms_step
 
 -- ---- the time of a name
 
-module _ (u : ℕ) (bs : List (List ℕ)) (i : ℕ) where
-  pub time-none : length bs ≤ i → refused 21 u ≡ time_among u (map record_of (drop i bs))
-  unfolding time_among
-  time-none h = rw (drop_all i bs h)
+-- the answer by the first record of the name
+unfoldable pub time_found : ℕ → Option (List ℕ) → Answer ℕ
+time_found u None = refused 21 u
+time_found u (Some b) = got (word_at b 4)
 
-  module _ (d : List ℕ) (h : i < length bs) (x : ℕ) (e : x ≡ word_at (get_or bs i d) 0) where
-    pub time_here : (y : ℕ) → x ≡ u → y ≡ word_at (get_or bs i d) 4 → got y ≡ time_among u (map record_of (drop i bs))
-    unfolding time_among
-    time_here y t f = rw (at_drop_more (map record_of) bs i d h, ← e, ← f, eq-eqb _ _ t)
-
-    pub time_on : (x ≡ u → ⊥) → time_among u (map record_of (drop (i + 1) bs)) ≡ time_among u (map record_of (drop i bs))
-    unfolding time_among
-    time_on t = rw (at_drop_more (map record_of) bs i d h, ← e, ne_eqb _ _ t)
+pub time_first : (u : ℕ) (bs : List (List ℕ)) → time_found u (find (λ b. eqb (word_at b 0) u) bs) ≡ time_among u (map record_read bs)
+unfolding time_among time_found
+time_first u [] = refl
+time_first u (b ∷ bs) = go (eqb (word_at b 0) u) (time_first u bs)
+  where
+    go : (t : Bool) → time_found u (find (λ c. eqb (word_at c 0) u) bs) ≡ time_among u (map record_read bs)
+        → time_found u (cond t (Some b) (find (λ c. eqb (word_at c 0) u) bs)) ≡ pick t (got (word_at b 4)) (time_among u (map record_read bs))
+    go true e = refl
+    go false e = e
 
 -- ---- the records and atoms of a table, as the code cuts them
 
@@ -107,7 +111,7 @@ more_cut : (s xs : List ℕ) (p n k : ℕ) → Cut s p xs (k + n) → Cut s (p +
 unfolding Cut
 more_cut s xs p n k c j h = get_or-drop k xs j 0 ∙ c (k + j) (omega arith) ∙ ap (λ (i : ℕ). get_or s i 0) (omega arith)
 
-records_cut : (s xs : List ℕ) (k p : ℕ) → Cut s p xs (8 * k) → map record_of (first_chunks 8 k xs) ≡ records_at s k p
+records_cut : (s xs : List ℕ) (k p : ℕ) → Cut s p xs (8 * k) → map record_read (first_chunks 8 k xs) ≡ records_at s k p
 unfolding records_at
 records_cut s xs zero p c = refl
 records_cut s xs (suc k) p c =
@@ -117,7 +121,7 @@ records_cut s xs (suc k) p c =
     let y : word_at (take 8 xs) 4 ≡ word_at s (p + 4) = word_cut s xs p (8 + 8 * k) 4 8 b (omega arith) (omega arith) in
     rw (x, y, add-zero, records_cut s (drop 8 xs) k (p + 8) (more_cut s xs p (8 * k) 8 b))
 
-atoms_cut : (s xs : List ℕ) (k p : ℕ) → Cut s p xs (4 * k) → map atom_of (first_chunks 4 k xs) ≡ atoms_at s k p
+atoms_cut : (s xs : List ℕ) (k p : ℕ) → Cut s p xs (4 * k) → map atom_read (first_chunks 4 k xs) ≡ atoms_at s k p
 unfolding atoms_at
 atoms_cut s xs zero p c = refl
 atoms_cut s xs (suc k) p c =
@@ -132,13 +136,13 @@ mid_cut s p n j h = get_or-take n (drop p s) j 0 h ∙ get_or-drop p s j 0
 
 -- the chunks of the part of s from p on that has k records, or k atoms
 pub records-shown : (s : List ℕ) (p n k : ℕ) (bs : List (List ℕ)) → p + n ≤ length s → n ≡ 8 * k
-    → bs ≡ first_chunks 8 (length (mid_of p n s) / 8) (mid_of p n s) → map record_of bs ≡ records_at s k p
+    → bs ≡ first_chunks 8 (length (mid_of p n s) / 8) (mid_of p n s) → map record_read bs ≡ records_at s k p
 records-shown s p n k bs h e f =
     let l : length (mid_of p n s) / 8 ≡ k = omega (arith, length-take n (drop p s), length-drop p s) in
     rw (f, l) (records_cut s (mid_of p n s) k p (subst (λ (c : ℕ). Cut s p (mid_of p n s) c) e (mid_cut s p n)))
 
 pub atoms-shown : (s : List ℕ) (p n k : ℕ) (bs : List (List ℕ)) → p + n ≤ length s → n ≡ 4 * k
-    → bs ≡ first_chunks 4 (length (mid_of p n s) / 4) (mid_of p n s) → map atom_of bs ≡ atoms_at s k p
+    → bs ≡ first_chunks 4 (length (mid_of p n s) / 4) (mid_of p n s) → map atom_read bs ≡ atoms_at s k p
 atoms-shown s p n k bs h e f =
     let l : length (mid_of p n s) / 4 ≡ k = omega (arith, length-take n (drop p s), length-drop p s) in
     rw (f, l) (atoms_cut s (mid_of p n s) k p (subst (λ (c : ℕ). Cut s p (mid_of p n s) c) e (mid_cut s p n)))

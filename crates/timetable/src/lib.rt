@@ -10,7 +10,7 @@ ghost use Rattle.faults.specs.Values.{as_answer};
 ghost use Rattle.timetable.specs.Word.{four_bytes, word_at};
 ghost use Rattle.timetable.specs.Table.{records_of, record_bytes, atom_bytes, header_length, header_bytes, table_of, ascends, times_fit, names_of, is_table};
 ghost use Rattle.timetable.specs.Times.{time_among, time_of};
-ghost use Rattle.timetable.specs.inner.Given.{time_at, record_of, atom_of, given, WriterRooms, Timely, WrittenTable};
+ghost use Rattle.timetable.specs.inner.Given.{time_at, record_read, atom_read, given, WriterRooms, Timely, WrittenTable};
 
 use faults::{Kind, LAST_ATOM, LAST_TERM, Refusal, TermNo};
 
@@ -76,7 +76,7 @@ fn write_names(part: &mut [u8], names: &[u8], times: &[u64]) -> usize
 }
 
 // Writes the marked atoms into the part of the room that begins at their offset, and answers how many bytes they take.
-// Kept: a writer of its own beside `write_names`; each gets a mutable part of the room that begins in its middle (docs/DECISIONS.md).
+// Kept: a writer of its own beside `write_names`, which has a time for each name; one writer of both would take the step as a closure that is lent the room.
 fn write_atoms(part: &mut [u8], atoms: &[u8]) -> usize
     requires atoms_len_bound { length atoms.now ≤ atom_places }
     requires atoms_in_bounds { 4 * length (marked_from 1 atoms.now) ≤ length part.old }
@@ -118,7 +118,7 @@ pub fn word_at(table: &[u8], p: usize) -> u32
 
 // Whether records ascend and are within the bounds.
 fn records_within(records: &[[u8; 8]]) -> bool
-    ensures { let rs = map record_of records.now in result ≡ ascends 0 last_term (names_of rs) && times_fit rs }
+    ensures { let rs = map record_read records.now in result ≡ ascends 0 last_term (names_of rs) && times_fit rs }
 {
     let mut low = 0;
     for record in records {
@@ -133,8 +133,9 @@ fn records_within(records: &[[u8; 8]]) -> bool
 }
 
 // Whether atoms ascend and are within the bounds.
+// Kept: beside `records_within`, which looks at the times in the same pass; with one generic function they would take a second.
 fn atoms_within(atoms: &[[u8; 4]]) -> bool
-    ensures { result ≡ ascends 1 last_atom (map atom_of atoms.now) }
+    ensures { result ≡ ascends 1 last_atom (map atom_read atoms.now) }
 {
     let mut low = 1;
     for atom in atoms {
@@ -169,14 +170,12 @@ fn is_table(table: &[u8]) -> bool
 
 // The time of a name among records, or 21.
 fn time_among(records: &[[u8; 8]], name: TermNo) -> Result<u32, Refusal>
-    ensures { as_answer result ≡ time_among name.0 (map record_of records.now) }
+    ensures { as_answer result ≡ time_among name.0 (map record_read records.now) }
 {
-    for record in records {
-        if word_at(record, 0) == name.0 {
-            return Ok(word_at(record, 4));
-        }
-    }
-    Err(Kind::NotNamed.at(name.0 as usize))
+    let Some(record) = records.iter().find(|r| word_at(*r, 0) == name.0) else {
+        return Err(Kind::NotNamed.at(name.0 as usize));
+    };
+    Ok(word_at(record, 4))
 }
 
 // The time of a name in a timetable; or 20 where the slice is none, or 21 where the name is not in it.

@@ -33,8 +33,8 @@ naming ds n = among n (xs_in ds) || among n (ys_in ds)
 -- ---- of a slice of differences
 
 -- the numbers of their x and of their y
-abbrev pub xs_of : List Difference → List ℕ
-xs_of ds = map (λ (d : Difference). d.x.0) ds
+abbrev pub x_numbers : List Difference → List ℕ
+x_numbers ds = map (λ (d : Difference). d.x.0) ds
 
-abbrev pub ys_of : List Difference → List ℕ
-ys_of ds = map (λ (d : Difference). d.y.0) ds
+abbrev pub y_numbers : List Difference → List ℕ
+y_numbers ds = map (λ (d : Difference). d.y.0) ds

@@ -57,13 +57,13 @@ element_of (some (states a p vs g)) = elem [] []
 element_of none = elem [] []
 
 -- the place of the statement that an entry stands for
-abbrev pub place_of : (entry : ℕ) → code.Option ℕ
-place_of zero = None
-place_of (suc q) = Some q
+abbrev pub place_by : (entry : ℕ) → code.Option ℕ
+place_by zero = None
+place_by (suc q) = Some q
 
 -- the place of the statement that defines a number
 abbrev pub place_in : (table : List ℕ) → ℕ → code.Option ℕ
-place_in table u = place_of (word table u)
+place_in table u = place_by (word table u)
 
 -- the term of the statement at q
 abbrev pub term_at : List ℕ → (q : ℕ) → Term
@@ -88,11 +88,11 @@ unfoldable pub elements_in : List ℕ → (table : List ℕ) → ℕ → Option 
 elements_in t elements v = element_on t (place_in elements v)
 
 -- the terms and the elements that the code knows
-abbrev pub terms_of : Known → ℕ → Option Term
-terms_of k = look_in k.tape.now k.terms.now
+abbrev pub terms_by : Known → ℕ → Option Term
+terms_by k = look_in k.tape.now k.terms.now
 
-abbrev pub elements_of : Known → ℕ → Option Element
-elements_of k = elements_in k.tape.now k.elements.now
+abbrev pub elements_by : Known → ℕ → Option Element
+elements_by k = elements_in k.tape.now k.elements.now
 
 -- a number is entered in a table, of terms or of elements
 unfoldable pub entered : (table : List ℕ) → ℕ → Bool

@@ -1,14 +1,24 @@
--- `time_among`: the time among the records that are left is the whole answer.
-use mathlib.Core.Path.{◌∙◌}
-use Rattle.timetable.proofs.Reading.{time-none, time_here, time_on}
+-- `time_among`: the first record of the name answers.
+use borrow.Author.Rules.{rules}
+use borrow.Author.Tests.{tests}
+use mathlib.Core.Path.{ap, ◌∙◌}
+use lib.Dec.{eqb}
+use Rattle.std.proofs.lemmas.Iterator.{YieldsList-from_slice}
+use Rattle.std.proofs.lemmas.Iterator.Search.{find_from_yields_List}
+use Rattle.timetable.specs.Word.{word_at}
+use Rattle.timetable.proofs.Reading.{time_found, time_first}
 use Rattle.timetable.proofs.time_among.Goals as goal
 
-pub returns-then-word_at-name : goal.returns-then-word_at-name
-returns-then-word_at-name c =
-    time_here _ _ _ _ c.loop-record-test.true _ c.word_at.ensures _ c.if-word_at-name.true c.word_at-then-word_at-name.ensures ∙ c.loop-record.invariant
-
-pub loop-record-preserved : goal.loop-record-preserved
-loop-record-preserved c = time_on _ _ _ _ c.loop-record-test.true _ c.word_at.ensures c.if-word_at-name.false ∙ c.loop-record.invariant
+pub returns-in_default : goal.returns-in_default
+unfolding time_found
+returns-in_default c =
+    let u = c.args.name.0 in
+    let f = find_from_yields_List (λ b. eqb (word_at b 0) u) _ _ c.find.result c.find.ensures.ran (YieldsList-from_slice c.args.records.now cc) (λ x b q k. search (rules, tests)) in
+    rw c.at.ensures (ap (time_found u) (rw c.in_default.is at f) ∙ time_first u _)
 
 pub returns : goal.returns
-returns c = rw c.at.ensures (time-none _ _ _ c.loop-record-test.false ∙ c.loop-record.invariant)
+unfolding time_found
+returns c =
+    let u = c.args.name.0 in
+    let f = find_from_yields_List (λ b. eqb (word_at b 0) u) _ _ c.find.result c.find.ensures.ran (YieldsList-from_slice c.args.records.now cc) (λ x b q k. search (rules, tests)) in
+    rw c.word_at.ensures (ap (time_found u) (rw c.in-Some.is at f) ∙ time_first u _)

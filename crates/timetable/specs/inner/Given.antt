@@ -19,12 +19,12 @@ given names times atoms =
     }
 
 -- the record that eight bytes are
-abbrev pub record_of : List ℕ → Record
-record_of bytes = record { name = word_at bytes 0; time = word_at bytes 4 }
+abbrev pub record_read : List ℕ → Record
+record_read bytes = record { name = word_at bytes 0; time = word_at bytes 4 }
 
 -- the atom that four bytes are
-abbrev pub atom_of : List ℕ → ℕ
-atom_of bytes = word_at bytes 0
+abbrev pub atom_read : List ℕ → ℕ
+atom_read bytes = word_at bytes 0
 
 -- no more places than term numbers and atoms, a time for each place of a name, and a room for the longest table
 pub record WriterRooms (names times atoms room : List ℕ) : Type 0 where
