@@ -3,8 +3,8 @@ use Rattle.std.specs.Prelude.{ℕ, ◌-◌, List, [], ◌∷◌, length}
 use Rattle.std.proofs.lemmas.List.Edits.{sets}
 
 -- the first line, and the comment's type and the space after it
-abbrev pub opening : List ℕ
-opening = 97 ∷ 115 ∷ 112 ∷ 32 ∷ 49 ∷ 32 ∷ 48 ∷ 32 ∷ 48 ∷ 10 ∷ 49 ∷ 48 ∷ 32 ∷ []
+abbrev pub first_bytes : List ℕ
+first_bytes = 97 ∷ 115 ∷ 112 ∷ 32 ∷ 49 ∷ 32 ∷ 48 ∷ 32 ∷ 48 ∷ 10 ∷ 49 ∷ 48 ∷ 32 ∷ []
 
 -- the comment's line end, and the last line
 abbrev pub closing : List ℕ
@@ -12,4 +12,4 @@ closing = 10 ∷ 48 ∷ 10 ∷ []
 
 -- a text with both its ends so: what stands between them is the comment
 abbrev pub commented : List ℕ → List ℕ
-commented text = sets (sets text 0 opening) (length text - 3) closing
+commented text = sets (sets text 0 first_bytes) (length text - 3) closing
