@@ -186,6 +186,10 @@ module _ {s x : List ℕ} {low at k : ℕ} {whole : Reading (List ℕ)} (h : Mar
   unfolding ascending
   marking_out l = let z : last_atom - k ≡ 0 = omega arith in rw (h.rest, z)
 
+  -- above 4,096 nothing more is read
+  pub marking_full : last_atom ≤ low → refused 7 at ≡ answer whole
+  marking_full l = rw (h.rest, ascending-none (last_atom - k) low s at l)
+
   module _ (l : k < last_atom) where
     next : whole ≡ behind (atoms_of x) (and_then (atom_above low s at) (onward (last_atom - k - 1) s))
     next = h.rest ∙ rw (turn (last_atom - k) low s at (omega arith))

@@ -26,7 +26,7 @@ use Rattle.aspif.proofs.Decoding.{lines-back, ahead-back}
 use Rattle.aspif.proofs.Kept.{Bytes, lines-small}
 
 -- the words of a line: those of what it says, and in front of them its place and their count
-line-words : (u : List ℕ) (o place end : ℕ) (ws : List ℕ) {v w : List ℕ} → v ≡ sets u (o + 2) ws → end ≡ o + 2 + length ws
+pub line-words : (u : List ℕ) (o place end : ℕ) (ws : List ℕ) {v w : List ℕ} → v ≡ sets u (o + 2) ws → end ≡ o + 2 + length ws
     → w ≡ set (set v o place) (o + 1) (end - (o + 2)) → w ≡ sets u o (place ∷ listed ws)
 line-words u o place end ws e n f =
     let k : end - (o + 2) ≡ length ws = omega arith in

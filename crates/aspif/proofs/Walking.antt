@@ -48,6 +48,12 @@ unfolding Ahead
 ahead_starts t p zero a = a
 ahead_starts t p (suc n) a = omega (arith, a.0.stand.inside)
 
+-- the size of the first of them stands on the tape
+pub ahead_size : (t : List ℕ) (p n : ℕ) → 0 < n → Ahead t p n → p + 1 < length t
+unfolding Ahead
+ahead_size t p zero h a = absurd (omega arith)
+ahead_size t p (suc n) h a = omega (arith, a.0.stand.inside)
+
 module _ (t : List ℕ) (p n : ℕ) (h : 0 < n) where
   pub ahead-next : Ahead t p n → LineOn t p × Ahead t (after t p) (n - 1)
   unfolding Ahead

@@ -57,6 +57,10 @@ fn ascending(c: Cursor, s: &[u8], x: &mut [u8; ATOM_PLACES]) -> Result<AtomNo, R
     let mut d = c;
     let mut low = AtomNo(0);
     for _ in 0..LAST_ATOM {
+        // Above the largest atom there is none, so what follows it is not read.
+        if low.0 == LAST_ATOM {
+            break;
+        }
         let (v, e) = atom_above(d, s, low)?;
         x[v.0 as usize] = 1;
         let Ok(next) = e.byte(s, SPACE) else {

@@ -56,7 +56,7 @@ impl<'a> Iterator for Places<'a> {
             return None;
         }
         let p = self.at;
-        self.at = after_at(self.tape, p);
+        self.at = after_line(self.tape, p);
         self.left -= 1;
         Some(p)
     }
@@ -100,4 +100,14 @@ pub fn after_at(tape: &[u32], p: usize) -> usize
     ensures { result ≡ after tape.now p }
 {
     p + SAYS + word_at(tape, p, SIZE) as usize
+}
+
+// The place after the line at p, whose size is on the tape.
+// Kept: beside `after_at`, which looks whether the size is there; by that a walk over many short lines takes a fifth more time.
+#[tactic(auto, unfolding(crate::specs::inner::Words::word))]
+fn after_line(tape: &[u32], p: usize) -> usize
+    requires { p + 1 < length tape.now }
+    ensures { result ≡ after tape.now p }
+{
+    p + SAYS + tape[p + SIZE] as usize
 }

@@ -1,18 +1,18 @@
 -- The part of a line from a place on, by its places. Assumes nothing.
-use Prim.Native.Nat.{ℕ, ◌+◌, ◌-◌, min}
-use mathlib.Core.Path.{◌≡◌, refl, ap, ◌∙◌}
+use Prim.Native.Nat.{ℕ, ◌+◌, ◌-◌, ◌≤◌, min}
+use mathlib.Core.Path.{◌≡◌, refl, ap, sym, ◌∙◌}
 use mathlib.Core.Bool.{Bool, true, false}
 use mathlib.Core.List.{List, []}
 use native.Mathlib.Omega.{arith}
 use borrow.Author.Tests.{eqb-true}
 use lib.Dec.{eqb}
-use lib.ListN.{length, take, drop}
+use lib.ListN.{length, take, drop, drop_of_length-le}
 use Rattle.std.proofs.lemmas.List.{drop_min, take_all, length-drop}
 use lib.Seq.{drop-length, take-nil}
 use denote.Ref.{Bor}
 use Rattle.fields.specs.declared.LineEnd.{LineEnd}
 use Rattle.fields.specs.Fields.{until, breaks, ends_of, part_from}
-use Rattle.fields.proofs.Runs.{until-take}
+use Rattle.fields.proofs.Runs.{run_out, until-take}
 use Rattle.judge.specs.Shown.{in_text, shown, Part, IsShown}
 
 module _ (s : List ℕ) (i : ℕ) {m e : ℕ} {k : LineEnd} (f : m ≡ min i (length s)) (g : k ≡ ends_of s)
@@ -34,6 +34,16 @@ module _ (s : List ℕ) (i : ℕ) {m e : ℕ} {k : LineEnd} (f : m ≡ min i (le
   pub part_fits : e ≡ length (take e (take (length s - m) (drop m s)))
   unfolding part_from
   part_fits = rw part_bytes size
+
+module _ (s : List ℕ) (i : ℕ) where
+  -- beyond the end there is nothing
+  pub part_out : length s ≤ i → part_from s i ≡ []
+  unfolding part_from
+  part_out h = run_out (breaks (ends_of s)) s i h
+
+  -- and no rest
+  pub part_none : {m : ℕ} → m ≡ min i (length s) → length s ≤ i → take (length s - m) (drop m s) ≡ part_from s i
+  part_none {m} f h = take_all (length s - m) (drop m s) (omega (arith, length-drop m s)) ∙ rw f (drop_min i s) ∙ drop_of_length-le s h ∙ sym (part_out h)
 
 -- what stands behind the end is nothing
 pub behind_end : (s : List ℕ) → take (length s - length s) (drop (length s) s) ≡ []
