@@ -1,6 +1,8 @@
 pub mod Choosing
 pub mod Integers
+pub mod Signs
 pub mod Names
+pub mod Slices
 pub mod Cycles
 pub mod Turning
 pub mod EarliestTimes

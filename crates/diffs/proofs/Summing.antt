@@ -7,7 +7,7 @@ use lib.ListN.{length, take}
 use lib.IntN.{ℤ, pos, negsuc, ◌+ℤ◌, +ℤ_idr}
 use mir.Syntax.{w32, w64}
 use mir.Val.{SFits, to_z, of_z}
-use mir.Facts.{to_z-of_z, sfits_widen}
+use mir.Facts.{to_z-of_z}
 use Rattle.std.proofs.lemmas.List.{map_more}
 use Rattle.faults.specs.inner.Places.{term_places}
 use Rattle.diffs.specs.Diff.{Sum}
@@ -15,16 +15,8 @@ use Rattle.diffs.specs.inner.Answer.{cell, diff_at}
 use Rattle.diffs.specs.inner.Steps.{up, down, most_down}
 use Rattle.diffs.specs.declared.Difference.{Difference}
 use Rattle.diffs.proofs.Integers.{add_most}
+use Rattle.diffs.proofs.Signs.{back64, up_small, down-small}
 use Rattle.diffs.proofs.Turning.{sum_join}
-
--- a bound of 32 bits adds and takes away at most so much
-up_small : (k : ℤ) → SFits w32 k → up k < 2 ^ 31
-up_small (pos n) f = let h = f.sfits in omega arith
-up_small (negsuc n) f = omega arith
-
-down-small : (k : ℤ) → SFits w32 k → down k ≤ most_down
-down-small (pos n) f = omega arith
-down-small (negsuc n) f = let h = f.sfits in omega arith
 
 fits_of : (z : ℤ) → up z < 2 ^ 63 → down z < 2 ^ 63 → SFits w64 z
 fits_of (pos n) h g = record { sfits = h }
@@ -56,6 +48,6 @@ module _ (ds : List Difference) (w : List ℕ) (i : ℕ) (z : ℤ) (v : Summed d
   -- the code's step, r being the bound as it is read
   pub summed-more : (r : ℤ) → r ≡ to_z w32 (of_z w32 (diff_at ds (cell w i)).k) → Summed ds w (i + 1) (to_z w64 (of_z w64 (z +ℤ to_z w64 (of_z w64 r))))
   summed-more r e =
-      let b : to_z w64 (of_z w64 r) ≡ k = ap (λ (y : ℤ). to_z w64 (of_z w64 y)) (e ∙ to_z-of_z f) ∙ to_z-of_z {w = w64} (sfits_widen {w = w32} {w' = w64} tt f) in
+      let b : to_z w64 (of_z w64 r) ≡ k = ap (λ (y : ℤ). to_z w64 (of_z w64 y)) e ∙ back64 f in
       subst (λ (y : ℤ). Summed ds w (i + 1) (to_z w64 (of_z w64 (z +ℤ y)))) (sym b)
       (subst (λ (y : ℤ). Summed ds w (i + 1) y) (sym (to_z-of_z fits_sum)) one_more)

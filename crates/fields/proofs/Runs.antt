@@ -57,5 +57,11 @@ until-most ends s at = omega (arith, until-length ends (drop at s), length-drop 
 pub until-within : (ends : List ℕ → Bool) (s : List ℕ) (at : ℕ) → at ≤ length s → at + length (until ends (drop at s)) ≤ length s
 until-within ends s at h = omega (arith, until-most ends s at)
 
+-- two tests that agree
+pub until-same : (f g : List ℕ → Bool) → ((l : List ℕ) → f l ≡ g l) → (l : List ℕ) → until f l ≡ until g l
+unfolding until
+until-same f g h [] = refl
+until-same f g h (b ∷ bs) = rw (h (b ∷ bs), until-same f g h bs)
+
 -- what the files ends, digits and tape of src take of these
 pub ruleset runs = (run_out, run_stop, run_more, until-most, until-within)

@@ -48,7 +48,7 @@ case_in s at {c} = go (natural_then 5 longest_text feed s from) refl
 
 module _ (s : List ℕ) where
   -- it begins within the container or at its end
-  next-within : (at : ℕ) → next_at s (case_at s at) ≤ length s
+  pub next-within : (at : ℕ) → next_at s (case_at s at) ≤ length s
   next-within at = go (case_at s at) refl
     where
       go : (a : Option Case) → a ≡ case_at s at → next_at s a ≤ length s
@@ -64,7 +64,7 @@ module _ (s : List ℕ) where
       go None e = h
 
   -- from anywhere, no further back
-  next_grows : (at : ℕ) → at ≤ length s → at ≤ next_at s (case_at s at)
+  pub next_grows : (at : ℕ) → at ≤ length s → at ≤ next_at s (case_at s at)
   next_grows at h = go (case_at s at) refl
     where
       go : (a : Option Case) → a ≡ case_at s at → at ≤ next_at s a

@@ -20,14 +20,18 @@ use Rattle.judge.proofs.Firsts.{some-place, place-some, force_lists, lists_force
 module _ (ls : List Line) (atoms : List ℕ) (ds : List Difference) (h : Stating ls atoms ds)
     (x labels : List ℕ) (gathered : List Difference) (alike : length labels ≡ length gathered)
     (g : stated labels gathered ≡ in_force x (stated atoms ds)) where
+  -- each label holds and says the difference beside it
+  held_at_lem : (i : ℕ) → i < length gathered → Held (ready_at ls x) (word labels i) (held_at labels gathered i).says
+  held_at_lem i l =
+      let d = (held_at labels gathered i).says in
+      let p : Lists (stated labels gathered) (word labels i) d = place-some (λ (s : Stated). s ≡ held_at labels gathered i) (length labels) (held_at labels gathered) i (omega arith) refl in
+      let f = force_lists x (stated atoms ds) (word labels i) d (rw g at p) in
+      record { holds = marked-holds x (word labels i) ∙ f.1; says = listed-says ls (stated atoms ds) h.stated (word labels i) d f.0 }
+
   -- each difference that was gathered is said by its label, which holds
   pub label_held : (i : ℕ) → i < length gathered → Held (ready_at ls x) (cell labels i) (diff_at gathered i)
   unfolding word
-  label_held i l =
-      let d = diff_at gathered i in
-      let p : Lists (stated labels gathered) (cell labels i) d = place-some (λ (s : Stated). s ≡ held_at labels gathered i) (length labels) (held_at labels gathered) i (omega arith) refl in
-      let f = force_lists x (stated atoms ds) (cell labels i) d (rw g at p) in
-      record { holds = marked-holds x (cell labels i) ∙ f.1; says = listed-says ls (stated atoms ds) h.stated (cell labels i) d f.0 }
+  label_held i l = held_at_lem i l
 
   -- what was gathered is in force
   pub among_force : (d : Diff) → Among (length gathered) (diff_at gathered) d → InForce (ready_at ls x) d

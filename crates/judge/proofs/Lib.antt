@@ -15,6 +15,7 @@ pub mod Models
 pub mod SendRecv
 pub mod Starred
 pub mod Firsts
+pub mod Said
 pub mod Few
 pub mod Gathering
 pub mod Lateness

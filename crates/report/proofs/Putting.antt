@@ -4,7 +4,8 @@ use mathlib.Core.Path.{◌≡◌, ap, sym, ◌∙◌}
 use mathlib.Core.List.{List, [], ◌++◌, append_assoc}
 use native.Mathlib.Omega.{arith}
 use lib.ListN.{length, take, drop, length-append}
-use lib.Seq.{sets, sets-eq, length-sets, drop-drop}
+use lib.Seq.{sets, sets-eq, length-sets, length-take-le, drop-drop}
+use Rattle.io.specs.Counts.{IsPrefixLen}
 use Rattle.timetable.proofs.Stores.{sets_next}
 use Rattle.report.specs.inner.Steps.{Put, RoomAt}
 
@@ -23,6 +24,12 @@ module _ {xs a : List ℕ} {o : ℕ} {b : List ℕ} {p : ℕ} (s : Put xs a o b 
   -- where both steps fit, the second fits
   pub fits-second : (ys : List ℕ) → RoomAt (xs ++ ys) a o → RoomAt ys b p
   fits-second ys h = record { fits = omega (arith, h.fits, put-length, s.ends, length-append xs ys) }
+
+-- what fits from the first place on counts bytes there
+pub put-counts : {xs a b : List ℕ} {n : ℕ} → RoomAt xs a 0 → Put xs a 0 b n → IsPrefixLen n b
+put-counts {xs} {a} {b} {n} h s =
+    let l : n ≤ length b = omega (arith, h.fits, s.ends, put-length s) in
+    (l, sym (length-take-le n b l))
 
 -- where both steps fit, the first fits
 pub fits-first : {xs a : List ℕ} {o : ℕ} (ys : List ℕ) → RoomAt (xs ++ ys) a o → RoomAt xs a o

@@ -53,6 +53,10 @@ pick_false : (p m r : Bool) → pick p false m && not r ≡ m && not (p || r)
 pick_false true m r = sym (and_none m)
 pick_false false m r = refl
 
+-- marks that are changed by a rule are those that the rule gives
+pub marks_remarked : {size : ℕ} {x y : List ℕ} {f : ℕ → Bool} {g : Bool → ℕ → Bool} → MarksThose size x f → length y ≡ length x → Remarked x y g → MarksThose size y (λ n. g (f n) n)
+marks_remarked {size} {x} m l c = record { places = l ∙ m.places; each = λ n h. c.each n (omega (arith, m.places)) ∙ rw (m.each n h) }
+
 -- ---- the numbers of a list, up to the turn i
 
 pub record Marking (list l₀ l : List ℕ) (i : ℕ) : Type 0 where

@@ -1,8 +1,9 @@
 -- Signed numbers of 32 bits: a word w stands for an integer whose size is below 2^31, so neither it nor its negation wraps.
 use Prim.Native.Nat.{ℕ, zero, suc, ◌/◌, ◌%◌, ◌<◌}
-use mathlib.Core.Path.{◌≡◌, refl}
+use mathlib.Core.Path.{◌≡◌, refl, sym}
 use mathlib.Core.Bool.{Bool, true, false}
 use native.Mathlib.Omega.{arith}
+use borrow.Author.Tests.{eq-eqb, ne_eqb, eqb-true, eqb-false}
 use lib.Dec.{eqb}
 use lib.IntN.{ℤ, pos, neg_ℤ, neg_ℤ-neg_ℤ}
 use mir.Syntax.{w32}
@@ -37,6 +38,22 @@ module _ (w : ℕ) (h : w < 4294967296) where
       picked (λ z. SFits w32 (neg_ℤ z)) (eqb (w % 2) 0) (pos (w / 2)) (neg_ℤ (pos (w / 2))) (fits_neg (w / 2) (omega arith)) (rw neg_ℤ-neg_ℤ (fits_pos (w / 2) (omega arith)))
 
 -- ---- a compound's t
+
+-- an even word is a term number
+pub even-term : (w : ℕ) → w % 2 ≡ 0 → true ≡ is_term (integer_of w)
+even-term w a = rw (eq-eqb (w % 2) 0 a)
+
+negated-term : (m : ℕ) → is_term (neg_ℤ (pos m)) ≡ eqb m 0
+negated-term zero = refl
+negated-term (suc m) = sym (ne_eqb (suc m) 0 (λ e. omega arith))
+
+-- an odd word is a term number only where it is 1, which stands for 0
+pub odd-term : (w : ℕ) → (w % 2 ≡ 0 → ⊥) → eqb w 1 ≡ is_term (integer_of w)
+odd-term w a = rw (ne_eqb (w % 2) 0 a, negated-term (w / 2)) (go (eqb w 1) refl)
+  where
+    go : (b : Bool) → eqb w 1 ≡ b → b ≡ eqb (w / 2) 0
+    go true q = let e : w ≡ 1 = eqb-true w 1 q in sym (eq-eqb (w / 2) 0 (omega arith))
+    go false q = let e : w ≡ 1 → ⊥ = eqb-false w 1 q in sym (ne_eqb (w / 2) 0 (λ z. e (omega (arith, z))))
 
 -- a t that is a term number is the half of its word
 pub term-half : (w : ℕ) → is_term (integer_of w) ≡ true → integer_of w ≡ pos (w / 2)

@@ -84,11 +84,11 @@ module _ (t terms els : List ℕ) (seen : List Bool) (p : ℕ) where
     by_definition None None r table' b w go d = rw (d.0, d.1) (go b w)
 
   module _ (r : role_of (word t (p + 2)) ≡ role.Term) (u : ℕ) (eu : u ≡ word t (p + 2 + 1)) where
-    term-before : is_some (place_in terms u) ≡ twice here stating
+    pub term-before : is_some (place_in terms u) ≡ twice here stating
     unfolding env_of
     term-before = let d = rw r at (role_does t (p + 2)) in rw (d.1, ← eu) (known_if t terms u)
 
-    term-turned : (text : List ℕ) → u < length terms → false ≡ twice here stating → none ≡ unknown_use here stating
+    pub term-turned : (text : List ℕ) → u < length terms → false ≡ twice here stating → none ≡ unknown_use here stating
         → Turned text t p terms els seen (Ok None) (set terms u (p + 2 + 1)) els seen
     unfolding walk known_with env_of
     term-turned text l z w =
@@ -102,11 +102,11 @@ module _ (t terms els : List ℕ) (seen : List Bool) (p : ℕ) where
         by_definition text terms u (λ s terms'. Turned text t p terms els seen s terms' els seen) (λ y h. h) (place_in terms u) x s terms' term-before w (term-turned text l)
 
   module _ (r : role_of (word t (p + 2)) ≡ role.Element) (v : ℕ) (ev : v ≡ word t (p + 2 + 1)) where
-    element_before : is_some (place_in els v) ≡ twice here stating
+    pub element_before : is_some (place_in els v) ≡ twice here stating
     unfolding env_of
     element_before = let d = rw r at (role_does t (p + 2)) in rw (d.1, ← ev) (collected_if t els v)
 
-    element_turned : (text : List ℕ) → v < length els → false ≡ twice here stating → none ≡ unknown_use here stating
+    pub element_turned : (text : List ℕ) → v < length els → false ≡ twice here stating → none ≡ unknown_use here stating
         → Turned text t p terms els seen (Ok None) terms (set els v (p + 2 + 1)) seen
     unfolding walk known_with env_of
     element_turned text l z w =
