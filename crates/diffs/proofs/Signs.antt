@@ -1,4 +1,4 @@
--- A signed bound's two parts, as the code reads and makes them: a number of 32 bits is negated in 64 without wrap.
+-- A signed bound of 32 bits and its two parts: it is the same read back from 64 bits, and is negated there without wrap.
 use mathlib.Core.Path.{◌≡◌, refl, ap, subst, ◌∙◌}
 use mathlib.Core.Bool.{true, false}
 use Prim.Native.Nat.{◌≤◌, ◌<◌, ◌^◌}

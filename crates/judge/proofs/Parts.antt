@@ -15,35 +15,34 @@ use Rattle.fields.specs.Fields.{until, breaks, ends_of, part_from}
 use Rattle.fields.proofs.Runs.{run_out, until-take}
 use Rattle.judge.specs.Shown.{in_text, shown, Part, IsShown}
 
-module _ (s : List ℕ) (i : ℕ) {m e : ℕ} {k : LineEnd} (f : m ≡ min i (length s)) (g : k ≡ ends_of s)
-    (h : e ≡ 0 + length (until (breaks k) (drop 0 (take (length s - m) (drop m s))))) where
+-- beyond the end there is nothing
+pub part_out : (s : List ℕ) (i : ℕ) → length s ≤ i → part_from s i ≡ []
+unfolding part_from
+part_out s i h = run_out (breaks (ends_of s)) s i h
+
+module _ (s : List ℕ) (i : ℕ) {m : ℕ} (f : m ≡ min i (length s)) where
   -- the rest is what stands from the place on
   rest_is : take (length s - m) (drop m s) ≡ drop i s
   rest_is = take_all (length s - m) (drop m s) (omega (arith, length-drop m s)) ∙ rw f (drop_min i s)
 
-  -- it is cut where the part ends
-  size : e ≡ length (until (breaks (ends_of s)) (drop i s))
-  size = omega (arith, rw (g, rest_is) at h)
+  -- beyond the end it is the part, which is nothing
+  pub part_none : length s ≤ i → take (length s - m) (drop m s) ≡ part_from s i
+  part_none h = rest_is ∙ drop_of_length-le s h ∙ sym (part_out s i h)
 
-  -- so it has the bytes of the part
-  pub part_bytes : take e (take (length s - m) (drop m s)) ≡ part_from s i
-  unfolding part_from
-  part_bytes = rw (rest_is, size) (until-take (breaks (ends_of s)) (drop i s))
+  module _ {e : ℕ} {k : LineEnd} (g : k ≡ ends_of s) (h : e ≡ 0 + length (until (breaks k) (drop 0 (take (length s - m) (drop m s))))) where
+    -- it is cut where the part ends
+    size : e ≡ length (until (breaks (ends_of s)) (drop i s))
+    size = omega (arith, rw (g, rest_is) at h)
 
-  -- and the part ends within it
-  pub part_fits : e ≡ length (take e (take (length s - m) (drop m s)))
-  unfolding part_from
-  part_fits = rw part_bytes size
+    -- so it has the bytes of the part
+    pub part_bytes : take e (take (length s - m) (drop m s)) ≡ part_from s i
+    unfolding part_from
+    part_bytes = rw (rest_is, size) (until-take (breaks (ends_of s)) (drop i s))
 
-module _ (s : List ℕ) (i : ℕ) where
-  -- beyond the end there is nothing
-  pub part_out : length s ≤ i → part_from s i ≡ []
-  unfolding part_from
-  part_out h = run_out (breaks (ends_of s)) s i h
-
-  -- and no rest
-  pub part_none : {m : ℕ} → m ≡ min i (length s) → length s ≤ i → take (length s - m) (drop m s) ≡ part_from s i
-  part_none {m} f h = take_all (length s - m) (drop m s) (omega (arith, length-drop m s)) ∙ rw f (drop_min i s) ∙ drop_of_length-le s h ∙ sym (part_out h)
+    -- and the part ends within it
+    pub part_fits : e ≡ length (take e (take (length s - m) (drop m s)))
+    unfolding part_from
+    part_fits = rw part_bytes size
 
 -- what stands behind the end is nothing
 pub behind_end : (s : List ℕ) → take (length s - length s) (drop (length s) s) ≡ []

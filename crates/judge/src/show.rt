@@ -35,7 +35,7 @@ fn part_from(s: &[u8], place: usize) -> &[u8]
     ensures { Part result s.entry place }
 {
     let rest = &s[place.min(s.len())..];
-    // Beyond the end the slice, which may be of any length, is not walked for how its lines end.
+    // At the end or beyond it the slice, which may be of any length, is not walked for how its lines end.
     if s.len() <= place {
         return rest;
     }
